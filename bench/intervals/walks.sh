@@ -11,7 +11,7 @@ work=${1:-$(mktemp -d)}
 mkdir -p "$work/src"
 cp "$here/intervals_bench.txt" "$work/src/main.rt"
 "$here/../take_proofs.sh" "$work" problems/are_data/Invariants problems/is_data/Answers numbers/is_less/Answers numbers/is_ordered/Answers
-"$here/../over.sh" "$work" exact_algebra frac_core loss_model rank_inversion anyhow
+"$here/../over.sh" "$work" rational_laws frac_core loss_model rank_inversion anyhow
 uptime
 with_r=$(command -v Rscript >/dev/null && Rscript -e 'quit(status = !requireNamespace("quantreg", quietly = TRUE))' >/dev/null 2>&1 && echo yes || true)
 # The seconds of a processor of so many runs.

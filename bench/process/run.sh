@@ -10,7 +10,7 @@ work=${1:-$(mktemp -d)}
 mkdir -p "$work/src"
 cp "$here/process_bench.txt" "$work/src/main.rt"
 "$here/../take_proofs.sh" "$work" problems/has_costs/Invariants problems/is_negative/Answers numbers/is_ordered/Answers
-"$here/../over.sh" "$work" exact_algebra frac_core loss_model pivot_rule lambda_path whole_inverse tableau_model whole_tableau tableau tau_process anyhow
+"$here/../over.sh" "$work" rational_laws frac_core loss_model pivot_model lambda_path whole_inverse tableau_model whole_tableau tableau tau_process anyhow
 uptime
 "$work/program"
 if command -v Rscript >/dev/null && Rscript -e 'quit(status = !requireNamespace("quantreg", quietly = TRUE))'; then

@@ -9,5 +9,5 @@ work=${1:-$(mktemp -d)}
 mkdir -p "$work/src"
 cp "$here/solve_bench.txt" "$work/src/main.rt"
 "$here/../take_proofs.sh" "$work" problems/has_costs/Invariants problems/is_negative/Answers
-"$here/../over.sh" "$work" exact_algebra frac_core loss_model pivot_rule whole_inverse tableau_model whole_tableau tableau br_pivot anyhow
+"$here/../over.sh" "$work" rational_laws frac_core loss_model pivot_model whole_inverse tableau_model whole_tableau tableau br_pivot anyhow
 "$work/program"

@@ -4,10 +4,10 @@ use Rattle.std.specs.List.{list_any}
 use Rattle.std.specs.declared.cmp.Ordering.TheVariants.{Less, Greater}
 use Rattle.std.proofs.Common.{arith, refl, sym, ap, ap₂, ◌∙◌}
 use borrow.Author.Tests.{eqb-true, eqb-false, eq-eqb, ne_eqb}
-use Rattle.exact_algebra.specs.Rational.{whole}
-use Rattle.exact_algebra.specs.Order.{cmp_ℚ}
-use Rattle.exact_algebra.proofs.OrderLaws.{cmp_ℚ-Equal}
-use Rattle.exact_matrices.specs.Selections.{is_among}
+use Rattle.rational_laws.specs.Rational.{whole}
+use Rattle.rational_laws.specs.Order.{cmp_ℚ}
+use Rattle.rational_laws.proofs.OrderLaws.{cmp_ℚ-Equal}
+use Rattle.rational_laws.specs.Selections.{is_among}
 use Rattle.loss_model.specs.declared.vertex.Side.TheVariants.{Up, Down}
 use Rattle.basis_model.specs.Perturbed.{Nonbasic, side_of, perturbed_side}
 use Rattle.basis_model.proofs.Signs.{side-residual}

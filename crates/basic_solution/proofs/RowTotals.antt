@@ -1,10 +1,10 @@
 -- Totals over the rows outside a basis, row by row.
 use Rattle.std.specs.Prelude.{◌≡◌, ℕ, zero, suc, ◌+◌, ◌<◌, ◌≤◌, Bool, true, false, if◌then◌else◌, [], ◌∷◌, pos}
 use Rattle.std.proofs.Common.{arith, refl, sym, ap, subst, ◌∙◌, add-one}
-use Rattle.exact_algebra.specs.Fraction.{Fraction}
-use Rattle.exact_algebra.specs.Solver.{number, ◌⊞◌, ◌⊠◌, v0, v1}
-use Rattle.exact_algebra.specs.Rational.{ℚ, whole}
-use Rattle.exact_algebra.proofs.RationalLaws.{ring_ℚ}
+use Rattle.rational_laws.specs.Fraction.{Fraction}
+use Rattle.rational_laws.specs.Solver.{number, ◌⊞◌, ◌⊠◌, v0, v1}
+use Rattle.rational_laws.specs.Rational.{ℚ, whole}
+use Rattle.rational_laws.proofs.RationalLaws.{ring_ℚ}
 use Rattle.loss_model.specs.declared.spill.Quantity.TheVariants.{NonbasicTotal}
 use Rattle.loss_model.specs.declared.spill.Spill.{Spill}
 use Rattle.loss_model.specs.declared.vertex.Side.{Side}

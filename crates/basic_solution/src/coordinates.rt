@@ -1,6 +1,6 @@
 //! Coordinates: of all rows at one position, and of one row at all positions.
 ghost use Rattle.std.specs.Prelude.{◌≡◌, ℕ, ◌<◌, length, IfOk, IfErr};
-ghost use Rattle.exact_algebra.specs.Fraction.{rational};
+ghost use Rattle.rational_laws.specs.Fraction.{rational};
 ghost use Rattle.loss_model.specs.Problem.{value_at, sample, IsWellShaped};
 ghost use Rattle.loss_model.specs.Quantities.{IsShortOf, IsCoordinateSpill, IsCoordinatesSpill};
 ghost use Rattle.basis_inverse.specs.Square.{inverse_entry};

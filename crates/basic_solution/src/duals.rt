@@ -1,7 +1,7 @@
 //! The dual values of the rows of a basis, and the slopes of the loss that they give.
 ghost use Rattle.std.specs.Prelude.{◌≡◌, ℕ, ◌<◌, length, IfOk, IfErr};
-ghost use Rattle.exact_algebra.specs.Fraction.{rational};
-ghost use Rattle.exact_algebra.specs.Rational.{◌+ℚ◌, ◌-ℚ◌, ◌*ℚ◌};
+ghost use Rattle.rational_laws.specs.Fraction.{rational};
+ghost use Rattle.rational_laws.specs.Rational.{◌+ℚ◌, ◌-ℚ◌, ◌*ℚ◌};
 ghost use Rattle.loss_model.specs.declared.vertex.Side.TheVariants.{Up, Down};
 ghost use Rattle.loss_model.specs.Problem.{value_at};
 ghost use Rattle.loss_model.specs.Quantities.{IsShortOf};

@@ -1,6 +1,6 @@
 //! The sides of all rows at a basis.
 ghost use Rattle.std.specs.Prelude.{◌≡◌, ◌≢◌, ℕ, ◌<◌, length, slice_index, IfOk, IfErr};
-ghost use Rattle.exact_algebra.specs.Fraction.{rational};
+ghost use Rattle.rational_laws.specs.Fraction.{rational};
 ghost use Rattle.loss_model.specs.Sample.{residual as residual_of};
 ghost use Rattle.loss_model.specs.Problem.{value_at, sample, IsWellShaped};
 ghost use Rattle.loss_model.specs.Quantities.{IsShortOf, IsCoordinatesSpill};

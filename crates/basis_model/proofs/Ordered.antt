@@ -3,8 +3,8 @@ use Rattle.std.specs.Prelude.{◌≡◌, ◌≢◌, ◌⊎◌, ℕ, suc, ◌<◌
 use Rattle.std.specs.declared.cmp.Ordering.TheVariants.{Less, Equal}
 use Rattle.std.specs.Ordering.{ordering_reverse}
 use Rattle.std.proofs.Common.{arith, refl, sym, ap, ◌∙◌}
-use Rattle.exact_algebra.specs.Rational.{ℚ, whole}
-use Rattle.exact_algebra.proofs.Inverses.{one-zero}
+use Rattle.rational_laws.specs.Rational.{ℚ, whole}
+use Rattle.rational_laws.proofs.Inverses.{one-zero}
 use Rattle.basis_model.specs.Lexicographic.{lex_cmp}
 use Rattle.basis_model.proofs.LexicographicLaws.{lex_cmp_swap, same_from-lex_cmp, less-total}
 use Rattle.basis_model.specs.Perturbed.{Nonbasic, IsOutside, perturbed, zeros, perturbed_side, ratio}

@@ -2,7 +2,7 @@
 use Rattle.std.specs.Prelude.{◌≡◌, ◌≢◌, ℕ, zero, suc, ◌<◌, Bool, true, false, ◌==◌, if◌then◌else◌, pos}
 use Rattle.std.proofs.Common.{arith, refl, sym, ap, ◌∙◌}
 use borrow.Author.Tests.{eqb-true, eqb-false, eq-eqb, ne_eqb}
-use Rattle.exact_algebra.specs.Rational.{ℚ, neg_ℚ, whole}
+use Rattle.rational_laws.specs.Rational.{ℚ, neg_ℚ, whole}
 use Rattle.basis_model.specs.Perturbed.{Nonbasic, held_coordinate, perturbed}
 
 pub held_coordinate-none : (n : ℕ) (at : ℕ → ℕ) (c : ℕ → ℚ) (m : ℕ) → ((j : ℕ) → j < n → at j ≡ m → c j ≡ whole (pos 0)) → held_coordinate n at c m ≡ whole (pos 0)

@@ -5,8 +5,8 @@
 use Rattle.std.specs.Prelude.{◌≡◌, ◌≢◌, ℕ, zero, suc, ◌<◌, ◌==◌, if◌then◌else◌, pos}
 use Rattle.std.specs.Ordering.{ordering_then}
 use Rattle.std.proofs.Common.{arith, refl, ap, ap₂}
-use Rattle.exact_algebra.specs.Rational.{ℚ, neg_ℚ, whole}
-use Rattle.exact_algebra.specs.Order.{cmp_ℚ}
+use Rattle.rational_laws.specs.Rational.{ℚ, neg_ℚ, whole}
+use Rattle.rational_laws.specs.Order.{cmp_ℚ}
 use Rattle.basis_model.specs.Lexicographic.{lex_cmp}
 use Rattle.basis_model.proofs.LexicographicLaws.{lex_cmp-first}
 use Rattle.basis_model.specs.Perturbed.{Nonbasic, held_coordinate, perturbed, zeros, side_of, perturbed_side}

@@ -1,8 +1,8 @@
 -- Stated. What stands at a basis: the rows `at j` at its positions j, and the inverse a of their entries,
 -- whose entry `a k j` is that of column k at position j (Koenker and d'Orey 1987, AS 229).
 use Rattle.std.specs.Prelude.{ℕ, if◌then◌else◌, pos}
-use Rattle.exact_algebra.specs.Rational.{ℚ, ◌+ℚ◌, ◌*ℚ◌, neg_ℚ, whole}
-use Rattle.exact_algebra.specs.RationalSums.{sum_ℚ}
+use Rattle.rational_laws.specs.Rational.{ℚ, ◌+ℚ◌, ◌*ℚ◌, neg_ℚ, whole}
+use Rattle.rational_laws.specs.RationalSums.{sum_ℚ}
 use Rattle.loss_model.specs.Matrices.{AreInverse, coordinate}
 use Rattle.loss_model.specs.Selections.{is_among, AreDistinct}
 use Rattle.loss_model.specs.declared.vertex.Side.{Side}

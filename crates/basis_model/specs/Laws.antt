@@ -1,7 +1,7 @@
 -- Law. What the laws of the order say; each is a clause of a function.
 use Rattle.std.specs.Prelude.{◌≡◌, ◌≢◌, ◌↔◌, ◌⊎◌, ℕ, suc, ◌<◌, pos}
 use Rattle.std.specs.declared.cmp.Ordering.TheVariants.{Less, Equal}
-use Rattle.exact_algebra.specs.Rational.{ℚ, whole}
+use Rattle.rational_laws.specs.Rational.{ℚ, whole}
 use Rattle.basis_model.specs.Lexicographic.{lex_cmp, IsLessAt}
 use Rattle.basis_model.specs.Perturbed.{Nonbasic, IsOutside, perturbed, zeros, ratio}
 

@@ -4,8 +4,8 @@ use Rattle.std.specs.Prelude.{◌≡◌, ℕ, zero, suc, ◌<◌}
 use Rattle.std.specs.Ordering.{ordering_then}
 use Rattle.std.specs.declared.cmp.Ordering.{Ordering}
 use Rattle.std.specs.declared.cmp.Ordering.TheVariants.{Equal}
-use Rattle.exact_algebra.specs.Rational.{ℚ, ◌≤ℚ◌}
-use Rattle.exact_algebra.specs.Order.{cmp_ℚ}
+use Rattle.rational_laws.specs.Rational.{ℚ, ◌≤ℚ◌}
+use Rattle.rational_laws.specs.Order.{cmp_ℚ}
 
 -- how u compares with v at the first of n entries that differs
 abbrev pub lex_cmp : ℕ → (ℕ → ℚ) → (ℕ → ℚ) → Ordering

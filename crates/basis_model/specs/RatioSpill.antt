@@ -1,6 +1,6 @@
 -- Stated. The operations of perturbed ratios that overflow.
 use Rattle.std.specs.Prelude.{◌≡◌, ◌⊎◌, ℕ, ◌<◌, ◌≤◌}
-use Rattle.exact_algebra.specs.Fraction.{Fraction}
+use Rattle.rational_laws.specs.Fraction.{Fraction}
 use Rattle.loss_model.specs.OpKind.TheVariants.{Div}
 use Rattle.loss_model.specs.declared.spill.Quantity.TheVariants.{PerturbedRatio}
 use Rattle.loss_model.specs.declared.spill.Site.{Site}

@@ -8,7 +8,7 @@
 //! and the laws of the order: perturbed residuals have a sign, and perturbed ratios are in a strict
 //! order, total on rows that differ. These are the one contract for the layers above. They speak of
 //! spans and sums over all rows, and never of a tableau. The crate stands on the problem of
-//! `loss_model` and on `exact_algebra`.
+//! `loss_model` and on `rational_laws`.
 #![tactic(auto)]
 
 pub mod laws;

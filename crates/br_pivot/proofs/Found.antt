@@ -1,18 +1,18 @@
 -- What a solve over a tableau has found, with the inverse of its basis.
 use Rattle.std.specs.Prelude.{ℕ, List, slice_index}
 use Rattle.std.proofs.Common.{sym, subst}
-use Rattle.exact_algebra.specs.Fraction.{Fraction}
-use Rattle.exact_algebra.specs.Rational.{ℚ}
+use Rattle.rational_laws.specs.Fraction.{Fraction}
+use Rattle.rational_laws.specs.Rational.{ℚ}
 use Rattle.loss_model.specs.declared.problem.Problem.{Problem}
 use Rattle.loss_model.specs.declared.vertex.Basis.{Basis}
 use Rattle.loss_model.specs.Problem.{value_at, sample}
 use Rattle.loss_model.proofs.Duality.{minimum}
 use Rattle.basis_inverse.specs.Square.{Square, inverse_entry}
-use Rattle.pivot_rule.specs.Duals.{HasCosts}
-use Rattle.pivot_rule.specs.Steps.{HasNoNegativeSlope}
-use Rattle.pivot_rule.specs.Trails.{IsSolvingTrail}
-use Rattle.pivot_rule.specs.Results.{IsVertexAt, AreBasicDuals}
-use Rattle.pivot_rule.proofs.Solved.{vertex_is_optimal}
+use Rattle.pivot_model.specs.Duals.{HasCosts}
+use Rattle.pivot_model.specs.Steps.{HasNoNegativeSlope}
+use Rattle.pivot_model.specs.Trails.{IsSolvingTrail}
+use Rattle.pivot_model.specs.Results.{IsVertexAt, AreBasicDuals}
+use Rattle.pivot_model.proofs.Solved.{vertex_is_optimal}
 use Rattle.tableau.specs.declared.solving.Solution.{Solution}
 use Rattle.tableau.specs.Bodies.{place_of, IsTaken}
 use Rattle.tableau.specs.Solving.{IsSolution as IsFound}

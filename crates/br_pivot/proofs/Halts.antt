@@ -1,8 +1,8 @@
 -- What halts a solve is the cause of its stop.
 use Rattle.std.specs.Prelude.{◌≡◌, ℕ, Some}
 use Rattle.std.proofs.Common.{Err, refl, inr}
-use Rattle.exact_algebra.specs.Fraction.{Fraction}
-use Rattle.exact_algebra.specs.Rational.{ℚ}
+use Rattle.rational_laws.specs.Fraction.{Fraction}
+use Rattle.rational_laws.specs.Rational.{ℚ}
 use Rattle.loss_model.specs.declared.stop.Stop.{Stop}
 use Rattle.tableau_model.specs.Places.{Task}
 use Rattle.tableau.specs.declared.solving.Halt.{Halt}

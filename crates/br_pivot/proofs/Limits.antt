@@ -1,17 +1,17 @@
 -- Where a trail reaches the limit, the answer is neither a solution nor a dependence.
 use Rattle.std.specs.Prelude.{ℕ, ◌≤◌, length, slice_index}
 use Rattle.std.proofs.Common.{Ok, Err, inl}
-use Rattle.exact_algebra.specs.Fraction.{Fraction}
-use Rattle.exact_algebra.specs.Rational.{ℚ}
+use Rattle.rational_laws.specs.Fraction.{Fraction}
+use Rattle.rational_laws.specs.Rational.{ℚ}
 use Rattle.loss_model.specs.declared.problem.Problem.{Problem}
 use Rattle.loss_model.specs.declared.stop.Stop.{Stop}
 use Rattle.loss_model.specs.declared.stop.Stop.TheVariants.{OutOfMemory, PivotLimit, Overflow, Dependent}
 use Rattle.loss_model.specs.Problem.{value_at, sample}
 use Rattle.loss_model.specs.StartStop.{IsStartStop}
 use Rattle.basis_inverse.specs.Square.{inverse_entry}
-use Rattle.pivot_rule.specs.Duals.{HasCosts}
-use Rattle.pivot_rule.proofs.Solved.{full_rank}
-use Rattle.pivot_rule.proofs.Unique.{one_trail}
+use Rattle.pivot_model.specs.Duals.{HasCosts}
+use Rattle.pivot_model.proofs.Solved.{full_rank}
+use Rattle.pivot_model.proofs.Unique.{one_trail}
 use Rattle.br_pivot.specs.declared.solve.Solved.{Solved}
 use Rattle.br_pivot.specs.Answers.{IsOptimum, IsAnswer}
 use Rattle.br_pivot.specs.Solutions.{IsSolution}

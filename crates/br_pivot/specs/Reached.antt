@@ -1,11 +1,11 @@
 -- Inner. The basis at which a solve in whole numbers ends.
 use Rattle.std.specs.Prelude.{◌≡◌, ℕ, ◌≤◌, length, slice_index}
-use Rattle.exact_algebra.specs.Fraction.{Fraction}
-use Rattle.exact_algebra.specs.Rational.{ℚ}
+use Rattle.rational_laws.specs.Fraction.{Fraction}
+use Rattle.rational_laws.specs.Rational.{ℚ}
 use Rattle.loss_model.specs.declared.problem.Problem.{Problem}
 use Rattle.loss_model.specs.Problem.{sample}
-use Rattle.pivot_rule.specs.Steps.{HasNoNegativeSlope}
-use Rattle.pivot_rule.specs.Trails.{IsSolvingTrail}
+use Rattle.pivot_model.specs.Steps.{HasNoNegativeSlope}
+use Rattle.pivot_model.specs.Trails.{IsSolvingTrail}
 use Rattle.whole_tableau.specs.Kept.{IsKept, place}
 use Rattle.br_pivot.specs.declared.reached.Reached.{Reached}
 

@@ -1,16 +1,16 @@
 -- Inner. What a solve at one quantile gives.
 use Rattle.std.specs.Prelude.{slice_index}
-use Rattle.exact_algebra.specs.Fraction.{Fraction}
-use Rattle.exact_algebra.specs.Rational.{ℚ}
+use Rattle.rational_laws.specs.Fraction.{Fraction}
+use Rattle.rational_laws.specs.Rational.{ℚ}
 use Rattle.loss_model.specs.declared.problem.Problem.{Problem}
 use Rattle.loss_model.specs.Sample.{Minimises}
 use Rattle.loss_model.specs.Dual.{IsDual}
 use Rattle.loss_model.specs.Problem.{value_at, sample}
 use Rattle.loss_model.specs.Vertex.{dual_value}
 use Rattle.basis_inverse.specs.Square.{inverse_entry}
-use Rattle.pivot_rule.specs.Steps.{HasNoNegativeSlope}
-use Rattle.pivot_rule.specs.Trails.{IsSolvingTrail}
-use Rattle.pivot_rule.specs.Results.{IsVertexAt, AreBasicDuals}
+use Rattle.pivot_model.specs.Steps.{HasNoNegativeSlope}
+use Rattle.pivot_model.specs.Trails.{IsSolvingTrail}
+use Rattle.pivot_model.specs.Results.{IsVertexAt, AreBasicDuals}
 use Rattle.fraction_tableau.specs.Inverses.{IsInverseOf}
 use Rattle.br_pivot.specs.declared.solve.Solved.{Solved}
 

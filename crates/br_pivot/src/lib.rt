@@ -4,7 +4,7 @@
 //! The one contract for the layers above: `solve_at` gives coefficients that minimise, with dual
 //! values that show it, and the lawful trail that led there; where it stops without them, it says
 //! what it had to stop for. `reach_in_wholes` gives the basis as whole numbers keep it, for walks that
-//! go on from there. The crate stands on `pivot_rule` for the definitions and their laws, and on the loop
+//! go on from there. The crate stands on `pivot_model` for the definitions and their laws, and on the loop
 //! of `tableau` for the pivots.
 //! Its tests stand in the crate `solver_tests`.
 //!

@@ -1,8 +1,8 @@
 //! The solve in whole numbers alone, with the basis at which it ends.
 ghost use Rattle.std.specs.Prelude.{IfSome};
-ghost use Rattle.exact_algebra.specs.Fraction.{rational};
+ghost use Rattle.rational_laws.specs.Fraction.{rational};
 ghost use Rattle.loss_model.specs.Problem.{sample, IsWellShaped};
-ghost use Rattle.pivot_rule.specs.Duals.{HasCosts};
+ghost use Rattle.pivot_model.specs.Duals.{HasCosts};
 ghost use Rattle.whole_tableau.specs.Kept.{IsSetting};
 ghost use Rattle.br_pivot.specs.Reached.{IsReached};
 

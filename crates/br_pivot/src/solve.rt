@@ -1,8 +1,8 @@
 //! Solves at one quantile.
 ghost use Rattle.std.specs.Prelude.{◌≡◌, ℕ, ◌≤◌, length, IfOk, IfErr, IfSome, IsSome};
-ghost use Rattle.exact_algebra.specs.Fraction.{rational};
+ghost use Rattle.rational_laws.specs.Fraction.{rational};
 ghost use Rattle.loss_model.specs.Problem.{sample, IsWellShaped};
-ghost use Rattle.pivot_rule.specs.Duals.{HasCosts};
+ghost use Rattle.pivot_model.specs.Duals.{HasCosts};
 ghost use Rattle.tableau_model.specs.Places.{in_fractions, sample_of};
 ghost use Rattle.tableau.specs.Bodies.{place_of};
 ghost use Rattle.tableau.specs.Solving.{IsBegun, IsHalted, IsSolution as IsFound};

@@ -2,9 +2,9 @@
 use Rattle.std.specs.Prelude.{◌≡◌, ◌≢◌, ℕ, zero, suc, ◌<◌, Bool, true, false, List, [], length, eqb, pos, if◌then◌else◌}
 use Rattle.std.proofs.Common.{arith, refl, sym, ap, subst, ◌∙◌}
 use borrow.Author.Tests.{eqb-false}
-use Rattle.exact_algebra.specs.Fraction.{rational}
-use Rattle.exact_algebra.specs.Rational.{ℚ, ◌*ℚ◌, neg_ℚ, whole, ◌≤ℚ◌}
-use Rattle.exact_algebra.proofs.RationalSumLaws.{sum_ℚ-same}
+use Rattle.rational_laws.specs.Fraction.{rational}
+use Rattle.rational_laws.specs.Rational.{ℚ, ◌*ℚ◌, neg_ℚ, whole, ◌≤ℚ◌}
+use Rattle.rational_laws.proofs.RationalSumLaws.{sum_ℚ-same}
 use Rattle.frac_core.specs.declared.frac128.Frac128.{Frac128}
 use Rattle.frac_core.specs.Values.{value as value128}
 use Rattle.loss_model.specs.declared.interval.IntervalProof.{IntervalProof}
@@ -16,7 +16,7 @@ use Rattle.loss_model.specs.Problem.{value_at, sample}
 use Rattle.loss_model.specs.Sample.{up_cost, down_cost, residual}
 use Rattle.loss_model.specs.Strict.{◌<ℚ◌}
 use Rattle.loss_model.specs.Vertex.{IsOn}
-use Rattle.rank_law.specs.Restricted.{column_sum, IsProjection, rank_bound, squared_length}
+use Rattle.rank_model.specs.Restricted.{column_sum, IsProjection, rank_bound, squared_length}
 use Rattle.cert_sums.specs.Duals.{dual_of}
 use Rattle.cert_sums.specs.Ranks.{IsPositive, IsWithinCosts, IsHeld, IsInsideBound, IsBeyondBound}
 use Rattle.cert_checker.specs.Formulas as formula

@@ -2,25 +2,25 @@
 use Rattle.std.specs.Prelude.{◌≡◌, ℕ, ◌+◌, ◌<◌, ◌≤◌, ◌*◌, ◌*ℤ◌, [], ◌∷◌, List, ℤ, length, slice_get, Option, Some, pos}
 use Rattle.std.specs.Option.{option_map_or}
 use Rattle.std.proofs.Common.{arith, refl, sym, ap, ap₂, ◌∙◌}
-use Rattle.exact_algebra.specs.Fraction.{rational}
-use Rattle.exact_algebra.specs.Solver.{number, ◌⊞◌, ◌⊟◌, ◌⊠◌, v0, v1, v2, v3, v4}
-use Rattle.exact_algebra.specs.Rational.{◌+ℚ◌, ◌-ℚ◌, ◌*ℚ◌, whole}
-use Rattle.exact_algebra.specs.RationalSums.{sum_ℚ}
-use Rattle.exact_algebra.proofs.RationalLaws.{whole-mul, ring_ℚ}
-use Rattle.exact_algebra.proofs.RationalSumLaws.{sum_ℚ-next, sum_ℚ-same, sum_ℚ-scale}
-use Rattle.exact_algebra.proofs.Signs.{whole_product}
-use Rattle.exact_algebra.proofs.Lists.{item_there}
-use Rattle.exact_matrices.specs.Terms.{delta}
-use Rattle.exact_matrices.proofs.TermLaws.{sum_ℚ-delta}
+use Rattle.rational_laws.specs.Fraction.{rational}
+use Rattle.rational_laws.specs.Solver.{number, ◌⊞◌, ◌⊟◌, ◌⊠◌, v0, v1, v2, v3, v4}
+use Rattle.rational_laws.specs.Rational.{◌+ℚ◌, ◌-ℚ◌, ◌*ℚ◌, whole}
+use Rattle.rational_laws.specs.RationalSums.{sum_ℚ}
+use Rattle.rational_laws.proofs.RationalLaws.{whole-mul, ring_ℚ}
+use Rattle.rational_laws.proofs.RationalSumLaws.{sum_ℚ-next, sum_ℚ-same, sum_ℚ-scale}
+use Rattle.rational_laws.proofs.Signs.{whole_product}
+use Rattle.rational_laws.proofs.Lists.{item_there}
+use Rattle.rational_laws.specs.Terms.{delta}
+use Rattle.rational_laws.proofs.TermLaws.{sum_ℚ-delta}
 use Rattle.frac_core.specs.declared.frac128.Frac128.{Frac128}
 use Rattle.frac_core.specs.Values.{value as value128}
 use Rattle.loss_model.specs.declared.problem.Problem.{Problem}
 use Rattle.loss_model.specs.Problem.{value_at, sample}
 use Rattle.loss_model.specs.Sample.{fitted}
-use Rattle.rank_law.specs.Restricted.{projected}
-use Rattle.rank_law.proofs.Lengths.{sum_ℚ-minus}
+use Rattle.rank_model.specs.Restricted.{projected}
+use Rattle.rank_model.proofs.Lengths.{sum_ℚ-minus}
 use Rattle.wide_int.specs.Numbers.{total}
-use Rattle.exact_algebra.specs.WholeLists.{whole_at}
+use Rattle.rational_laws.specs.WholeLists.{whole_at}
 use Rattle.cert_sums.specs.declared.duals.Duals.{Duals}
 use Rattle.cert_sums.specs.declared.table.WholeRow.{WholeRow}
 use Rattle.cert_sums.specs.declared.table.Table.{Table}

@@ -4,11 +4,11 @@ use Rattle.std.specs.declared.cmp.Ordering.{Ordering}
 use Rattle.std.specs.declared.cmp.Ordering.TheVariants.{Less, Equal, Greater}
 use Rattle.std.specs.Ordering.{is_le, is_gt}
 use Rattle.std.proofs.Common.{refl, sym, ap, subst, ◌∙◌}
-use Rattle.exact_algebra.specs.Solver.{number, ◌⊠◌, v0, v1, v2}
-use Rattle.exact_algebra.specs.Rational.{ℚ, ◌*ℚ◌, whole, inverse, ◌≤ℚ◌}
-use Rattle.exact_algebra.specs.Order.{cmp_ℚ, sign_ℚ}
-use Rattle.exact_algebra.proofs.RationalLaws.{*ℚ-inverse, ring_by_ℚ, ≤ℚ_refl}
-use Rattle.exact_algebra.proofs.OrderLaws.{by_cmp, cmp_ℚ-Less, cmp_ℚ-Equal, cmp_ℚ-Greater, cmp_ℚ-not_Greater, sign_ℚ-above, ≤ℚ-from_mul}
+use Rattle.rational_laws.specs.Solver.{number, ◌⊠◌, v0, v1, v2}
+use Rattle.rational_laws.specs.Rational.{ℚ, ◌*ℚ◌, whole, inverse, ◌≤ℚ◌}
+use Rattle.rational_laws.specs.Order.{cmp_ℚ, sign_ℚ}
+use Rattle.rational_laws.proofs.RationalLaws.{*ℚ-inverse, ring_by_ℚ, ≤ℚ_refl}
+use Rattle.rational_laws.proofs.OrderLaws.{by_cmp, cmp_ℚ-Less, cmp_ℚ-Equal, cmp_ℚ-Greater, cmp_ℚ-not_Greater, sign_ℚ-above, ≤ℚ-from_mul}
 
 not_greater : (o : Ordering) → o ≡ Greater → ¬ (IsTrue (is_le o))
 not_greater o e h = cc (subst (λ z. IsTrue (is_le z)) e h)

@@ -1,15 +1,15 @@
 -- The squared length of what a projection leaves, as one sum over the column.
 use Rattle.std.specs.Prelude.{◌≡◌, ℕ, ◌<◌, [], ◌∷◌, pos}
 use Rattle.std.proofs.Common.{refl, sym, ap, ◌∙◌}
-use Rattle.exact_algebra.specs.Solver.{number, ◌⊟◌, ◌⊠◌, v0, v1, v2, v3}
-use Rattle.exact_algebra.specs.Rational.{ℚ, ◌-ℚ◌, ◌*ℚ◌, whole}
-use Rattle.exact_algebra.specs.RationalSums.{sum_ℚ}
-use Rattle.exact_algebra.proofs.RationalLaws.{ring_ℚ}
-use Rattle.exact_algebra.proofs.RationalSumLaws.{sum_ℚ-same}
+use Rattle.rational_laws.specs.Solver.{number, ◌⊟◌, ◌⊠◌, v0, v1, v2, v3}
+use Rattle.rational_laws.specs.Rational.{ℚ, ◌-ℚ◌, ◌*ℚ◌, whole}
+use Rattle.rational_laws.specs.RationalSums.{sum_ℚ}
+use Rattle.rational_laws.proofs.RationalLaws.{ring_ℚ}
+use Rattle.rational_laws.proofs.RationalSumLaws.{sum_ℚ-same}
 use Rattle.loss_model.specs.Sample.{Sample, fitted}
-use Rattle.rank_law.specs.Restricted.{column_sum, projected, IsProjection, squared_length}
-use Rattle.rank_law.proofs.Lengths.{sum_ℚ-minus, weighted_fit}
-use Rattle.rank_law.proofs.Optimal.{sum_ℚ-single}
+use Rattle.rank_model.specs.Restricted.{column_sum, projected, IsProjection, squared_length}
+use Rattle.rank_model.proofs.Lengths.{sum_ℚ-minus, weighted_fit}
+use Rattle.rank_model.proofs.Optimal.{sum_ℚ-single}
 use Rattle.cert_sums.specs.Sums.{IsBalancedBut}
 
 module _ (p : Sample) (j : ℕ) (c : ℕ → ℚ) (own : c j ≡ whole (pos 0)) (balanced : IsBalancedBut p j (λ i. p.up1 i *ℚ projected p j c i)) where

@@ -1,9 +1,9 @@
 -- Inner. What is shown of the projection of a rank interval, and of the dual values at its ends.
 use Rattle.std.specs.Prelude.{◌≡◌, ℕ, ℤ, ◌<◌, ◌*ℤ◌, List, slice_get, pos}
 use Rattle.std.specs.Option.{option_map_or}
-use Rattle.exact_algebra.specs.Fraction.{rational}
-use Rattle.exact_algebra.specs.Order.{cmp_ℚ}
-use Rattle.exact_algebra.specs.Rational.{ℚ, ◌+ℚ◌, ◌*ℚ◌, neg_ℚ, whole, ◌≤ℚ◌}
+use Rattle.rational_laws.specs.Fraction.{rational}
+use Rattle.rational_laws.specs.Order.{cmp_ℚ}
+use Rattle.rational_laws.specs.Rational.{ℚ, ◌+ℚ◌, ◌*ℚ◌, neg_ℚ, whole, ◌≤ℚ◌}
 use Rattle.frac_core.specs.declared.frac128.Frac128.{Frac128}
 use Rattle.frac_core.specs.Values.{value as value128}
 use Rattle.loss_model.specs.declared.interval.IntervalProof.{IntervalProof}
@@ -14,7 +14,7 @@ use Rattle.loss_model.specs.declared.vertex.Vertex.{Vertex}
 use Rattle.loss_model.specs.Problem.{value_at}
 use Rattle.loss_model.specs.Sample.{Sample, up_cost, down_cost}
 use Rattle.loss_model.specs.Strict.{◌<ℚ◌}
-use Rattle.rank_law.specs.Restricted.{column_sum, IsProjection, squared_length, rank_bound}
+use Rattle.rank_model.specs.Restricted.{column_sum, IsProjection, squared_length, rank_bound}
 use Rattle.wide_int.specs.Numbers.{total}
 use Rattle.cert_sums.specs.Duals.{side_in, dual_of}
 use Rattle.cert_sums.specs.Sums.{IsBalancedBut}

@@ -1,8 +1,8 @@
 //! The dual values of all rows at an end, in whole numbers: times a common denominator of its own, and the scale of the
 //! costs.
 ghost use Rattle.std.specs.Prelude.{◌≡◌, ◌+◌, ◌*◌, ◌<◌, ◌^◌, pos, unsigned_abs, IfSome, IsTrue};
-ghost use Rattle.exact_algebra.specs.Fraction.{rational};
-ghost use Rattle.exact_algebra.specs.Rational.{◌*ℚ◌, whole};
+ghost use Rattle.rational_laws.specs.Fraction.{rational};
+ghost use Rattle.rational_laws.specs.Rational.{◌*ℚ◌, whole};
 ghost use Rattle.frac_core.specs.Values.{value as value128};
 ghost use Rattle.loss_model.specs.Problem.{sample};
 ghost use Rattle.loss_model.specs.Vertex.{basic_value};

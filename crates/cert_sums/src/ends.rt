@@ -1,7 +1,7 @@
 //! What is tested of the ends of segments: that the dual values are orthogonal to the columns, that both sides of a loss
 //! come to what is stated, and that two ends have the same dual values.
 ghost use Rattle.std.specs.Prelude.{◌≡◌, IfSome, IsTrue};
-ghost use Rattle.exact_algebra.specs.Fraction.{rational};
+ghost use Rattle.rational_laws.specs.Fraction.{rational};
 ghost use Rattle.frac_core.specs.Values.{value as value128};
 ghost use Rattle.loss_model.specs.Problem.{sample};
 ghost use Rattle.cert_sums.specs.Tables.{IsTable};

@@ -1,8 +1,8 @@
 //! Operations on fractions, with no answer where one overflows.
 ghost use Rattle.std.specs.Prelude.{◌≡◌, pos, IfSome, IsTrue};
-ghost use Rattle.exact_algebra.specs.Fraction.{rational};
-ghost use Rattle.exact_algebra.specs.Order.{cmp_ℚ};
-ghost use Rattle.exact_algebra.specs.Rational.{◌+ℚ◌, ◌-ℚ◌, ◌*ℚ◌, whole, ◌≤ℚ◌};
+ghost use Rattle.rational_laws.specs.Fraction.{rational};
+ghost use Rattle.rational_laws.specs.Order.{cmp_ℚ};
+ghost use Rattle.rational_laws.specs.Rational.{◌+ℚ◌, ◌-ℚ◌, ◌*ℚ◌, whole, ◌≤ℚ◌};
 ghost use Rattle.frac_core.specs.Values.{value as value128};
 
 use frac_core::{Exact, Frac128};

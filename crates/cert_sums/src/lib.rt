@@ -6,7 +6,7 @@
 //! one of products of whole numbers (Koenker 2005, section 3.5 and chapter 6, has the conditions). Where a number is
 //! too wide for that, or memory is wanting, the answer is `false` too.
 //!
-//! It stands on the definitions of `loss_model` and `rank_law` and the fractions of `frac_core`, and shares nothing with the
+//! It stands on the definitions of `loss_model` and `rank_model` and the fractions of `frac_core`, and shares nothing with the
 //! solver.
 //!
 //! `cert_checker` calls it so:

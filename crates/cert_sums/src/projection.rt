@@ -3,14 +3,14 @@
 //! What is left is orthogonal to the other columns, so that its squared length is one sum over the column itself: no square
 //! of a number of a row is made.
 ghost use Rattle.std.specs.Prelude.{◌≡◌, ◌≤◌, ◌<◌, ◌+◌, ◌*◌, ◌^◌, ◌==◌, ◌*ℤ◌, ℕ, ℤ, pos, unsigned_abs, All, IfSome, IsTrue, length, if◌then◌else◌};
-ghost use Rattle.exact_algebra.specs.Fraction.{rational};
-ghost use Rattle.exact_algebra.specs.Rational.{◌-ℚ◌, ◌*ℚ◌, whole};
-ghost use Rattle.exact_matrices.specs.Terms.{delta};
+ghost use Rattle.rational_laws.specs.Fraction.{rational};
+ghost use Rattle.rational_laws.specs.Rational.{◌-ℚ◌, ◌*ℚ◌, whole};
+ghost use Rattle.rational_laws.specs.Terms.{delta};
 ghost use Rattle.frac_core.specs.Values.{value as value128};
 ghost use Rattle.loss_model.specs.Problem.{sample, value_at};
-ghost use Rattle.rank_law.specs.Restricted.{projected, IsProjection, squared_length};
+ghost use Rattle.rank_model.specs.Restricted.{projected, IsProjection, squared_length};
 ghost use Rattle.wide_int.specs.Numbers.{sizes};
-ghost use Rattle.exact_algebra.specs.WholeLists.{whole_at};
+ghost use Rattle.rational_laws.specs.WholeLists.{whole_at};
 ghost use Rattle.cert_sums.specs.Tables.{IsTable};
 ghost use Rattle.cert_sums.specs.Duals.{IsDuals};
 ghost use Rattle.cert_sums.specs.Ranks.{left_at, IsPositive};

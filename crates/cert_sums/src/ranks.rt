@@ -1,15 +1,15 @@
 //! The dual values at the ends of rank intervals: whether they are within their costs and orthogonal to the other columns,
 //! and how the square of their statistic stands to the bound.
 ghost use Rattle.std.specs.Prelude.{◌≡◌, ◌<◌, ℕ, pos, IfSome, IsTrue, length};
-ghost use Rattle.exact_algebra.specs.Fraction.{rational};
-ghost use Rattle.exact_algebra.specs.Order.{cmp_ℚ};
-ghost use Rattle.exact_algebra.specs.Rational.{◌-ℚ◌, ◌+ℚ◌, ◌*ℚ◌, whole, ◌≤ℚ◌};
+ghost use Rattle.rational_laws.specs.Fraction.{rational};
+ghost use Rattle.rational_laws.specs.Order.{cmp_ℚ};
+ghost use Rattle.rational_laws.specs.Rational.{◌-ℚ◌, ◌+ℚ◌, ◌*ℚ◌, whole, ◌≤ℚ◌};
 ghost use Rattle.frac_core.specs.Values.{value as value128};
 ghost use Rattle.loss_model.specs.Problem.{sample, value_at};
 ghost use Rattle.loss_model.specs.Sample.{residual};
 ghost use Rattle.loss_model.specs.Vertex.{IsOn, basic_value};
 ghost use Rattle.loss_model.specs.declared.vertex.Side.TheVariants.{Basic as BasicRow};
-ghost use Rattle.rank_law.specs.Restricted.{column_sum, squared_length, rank_bound};
+ghost use Rattle.rank_model.specs.Restricted.{column_sum, squared_length, rank_bound};
 ghost use Rattle.cert_sums.specs.Tables.{IsTable};
 ghost use Rattle.cert_sums.specs.Duals.{side_in, dual_of};
 ghost use Rattle.cert_sums.specs.Ranks.{IsBetween, IsWithinCosts, IsHeldWithout, IsStanding, IsInsideBound, IsBeyondBound};

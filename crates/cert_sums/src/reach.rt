@@ -1,6 +1,6 @@
 //! A quantile in whole numbers, times a number that all dual values of an end have for a denominator.
 ghost use Rattle.std.specs.Prelude.{IfSome};
-ghost use Rattle.exact_algebra.specs.Fraction.{rational};
+ghost use Rattle.rational_laws.specs.Fraction.{rational};
 ghost use Rattle.frac_core.specs.Values.{value as value128};
 ghost use Rattle.cert_sums.specs.Slopes.{IsReach};
 

@@ -1,12 +1,12 @@
 //! Whether each residual lies on the side of its row.
 ghost use Rattle.std.specs.Prelude.{◌≡◌, ◌≤◌, ◌<◌, ◌+◌, ◌*◌, ◌^◌, ℕ, pos, unsigned_abs, All, IfSome, IsTrue, length};
-ghost use Rattle.exact_algebra.specs.Rational.{◌*ℚ◌, neg_ℚ, whole};
+ghost use Rattle.rational_laws.specs.Rational.{◌*ℚ◌, neg_ℚ, whole};
 ghost use Rattle.frac_core.specs.Values.{value as value128};
 ghost use Rattle.loss_model.specs.Problem.{sample, value_at};
 ghost use Rattle.loss_model.specs.Sample.{residual};
 ghost use Rattle.loss_model.specs.Vertex.{IsOn};
 ghost use Rattle.wide_int.specs.Numbers.{sizes};
-ghost use Rattle.exact_algebra.specs.WholeLists.{whole_at};
+ghost use Rattle.rational_laws.specs.WholeLists.{whole_at};
 ghost use Rattle.cert_sums.specs.Tables.{IsTable};
 ghost use Rattle.cert_sums.specs.Duals.{side_in};
 ghost use Rattle.cert_sums.specs.Residuals.{IsWholeOn, AreMultipliers, RowsFollow};

@@ -1,7 +1,7 @@
 //! A run of segments: their sums by slopes are made anew for the first one, and from there on changed by the rows that pass
 //! to another side.
 ghost use Rattle.std.specs.Prelude.{◌≡◌, ◌<◌, ◌≤◌, ◌+◌, ℕ, All, IfSome, IsTrue, length, slice_get, Some};
-ghost use Rattle.exact_algebra.specs.Fraction.{rational};
+ghost use Rattle.rational_laws.specs.Fraction.{rational};
 ghost use Rattle.loss_model.specs.declared.process.Segment.{Segment as Piece};
 ghost use Rattle.frac_core.specs.declared.frac128.Frac128.{Frac128 as Fraction128};
 ghost use Rattle.frac_core.specs.Values.{value as value128};

@@ -1,7 +1,7 @@
 //! Common denominators, and fractions times them.
 ghost use Rattle.std.specs.Prelude.{◌≡◌, ◌≤◌, ◌*ℤ◌, pos, IfSome};
-ghost use Rattle.exact_algebra.specs.Fraction.{rational};
-ghost use Rattle.exact_algebra.specs.Rational.{◌*ℚ◌, whole};
+ghost use Rattle.rational_laws.specs.Fraction.{rational};
+ghost use Rattle.rational_laws.specs.Rational.{◌*ℚ◌, whole};
 ghost use Rattle.frac_core.specs.Values.{value as value128};
 
 use frac_core::{Exact, Frac128};

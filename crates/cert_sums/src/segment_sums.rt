@@ -1,9 +1,9 @@
 //! What the sums of a tally come to at an end of a segment, and rows that have the same dual value at two ends.
 ghost use Rattle.std.specs.Prelude.{◌≡◌, ◌<◌, ◌+◌, ℕ, pos, All, IfSome, IsTrue, length, get_or};
-ghost use Rattle.exact_algebra.specs.Fraction.{rational};
-ghost use Rattle.exact_algebra.specs.Rational.{◌*ℚ◌, whole};
+ghost use Rattle.rational_laws.specs.Fraction.{rational};
+ghost use Rattle.rational_laws.specs.Rational.{◌*ℚ◌, whole};
 ghost use Rattle.frac_core.specs.Values.{value as value128};
-ghost use Rattle.exact_algebra.specs.WholeLists.{whole_at};
+ghost use Rattle.rational_laws.specs.WholeLists.{whole_at};
 ghost use Rattle.cert_sums.specs.Tables.{IsTable};
 ghost use Rattle.cert_sums.specs.Slopes.{basic_at, end_dual, over_scales, sum_at, IsTally, IsReach, IsSummed};
 

@@ -4,8 +4,8 @@
 //! a line too, which serves both ends of a segment, and from one segment to the next it changes by the few rows that pass
 //! to another side.
 ghost use Rattle.std.specs.Prelude.{◌≡◌, ◌<◌, ◌*ℤ◌, ℕ, IfSome, length, get_or};
-ghost use Rattle.exact_algebra.specs.Rational.{◌+ℚ◌, ◌*ℚ◌, whole};
-ghost use Rattle.exact_algebra.specs.WholeLists.{whole_at};
+ghost use Rattle.rational_laws.specs.Rational.{◌+ℚ◌, ◌*ℚ◌, whole};
+ghost use Rattle.rational_laws.specs.WholeLists.{whole_at};
 ghost use Rattle.cert_sums.specs.Sums.{cell_at};
 ghost use Rattle.cert_sums.specs.Slopes.{side_of, line_on, part_of, part_at, part_change, AreTotals, is_settled, unsettled_rows, listed_total, IsTally};
 ghost use Rattle.cert_sums.specs.declared.slopes.Part.TheVariants.{Start, Slope};

@@ -1,10 +1,10 @@
 //! A problem in whole numbers: entries and responses times one number, and costs times another.
 ghost use Rattle.std.specs.Prelude.{◌≡◌, ◌≤◌, ◌+◌, ◌<◌, ℕ, pos, unsigned_abs, All, IfSome, length};
-ghost use Rattle.exact_algebra.specs.Fraction.{rational};
-ghost use Rattle.exact_algebra.specs.Rational.{◌*ℚ◌, whole};
+ghost use Rattle.rational_laws.specs.Fraction.{rational};
+ghost use Rattle.rational_laws.specs.Rational.{◌*ℚ◌, whole};
 ghost use Rattle.frac_core.specs.Values.{value as value128};
 ghost use Rattle.loss_model.specs.Problem.{value_at};
-ghost use Rattle.exact_algebra.specs.WholeLists.{whole_at};
+ghost use Rattle.rational_laws.specs.WholeLists.{whole_at};
 ghost use Rattle.cert_sums.specs.Tables.{ArePaired, IsLine, IsSmallLine, IsRowOf, IsSmallRow, IsTable};
 
 use crate::scale::{common_multiple, multiple, scaled};

@@ -1,7 +1,7 @@
 //! What a vertex says of a row: its side, and its place in the basis.
 ghost use Rattle.std.specs.Prelude.{◌≡◌, ◌==◌, length, position};
 ghost use Rattle.std.specs.List.{position_or_len};
-ghost use Rattle.exact_algebra.specs.Fraction.{rational};
+ghost use Rattle.rational_laws.specs.Fraction.{rational};
 ghost use Rattle.frac_core.specs.Values.{value as value128};
 ghost use Rattle.loss_model.specs.Problem.{value_at};
 ghost use Rattle.loss_model.specs.Vertex.{basic_value};

@@ -6,8 +6,8 @@ use Rattle.std.proofs.Math.Seq.{set-append_seam}
 use Rattle.std.proofs.lemmas.Bool.{and_parts, and_from, le-leb, eqb-true, eq-eqb}
 use Rattle.std.proofs.lemmas.List.{length_push}
 use Rattle.std.proofs.lemmas.List.Elements.{All-cons, All-nil}
-use Rattle.exact_algebra.specs.Rational.{ℚ}
-use Rattle.exact_algebra.proofs.OrderLaws.{by_cmp}
+use Rattle.rational_laws.specs.Rational.{ℚ}
+use Rattle.rational_laws.proofs.OrderLaws.{by_cmp}
 use Rattle.frac_core.specs.declared.frac128.Frac128.{Frac128}
 use Rattle.loss_model.specs.declared.vertex.Side.{Side}
 use Rattle.loss_model.specs.declared.vertex.Side.TheVariants.{Up, Down, Basic}

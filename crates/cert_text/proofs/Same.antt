@@ -3,7 +3,7 @@ use Rattle.std.proofs.Common.{◌≡◌, ◌-◌, All, List, map, refl, ap}
 use Rattle.std.proofs.Props.{props}
 use mathlib.Core.Path.{PathP}
 use mathlib.Core.HLevel.{is_prop→PathP}
-use Rattle.exact_algebra.proofs.Lists.{same_lists}
+use Rattle.rational_laws.proofs.Lists.{same_lists}
 use Rattle.frac_core.specs.declared.frac128.Frac128.{Frac128}
 use Rattle.frac_core.specs.Values.{exact}
 use Rattle.frac_core.proofs.Values.{same_number}

@@ -2,8 +2,8 @@
 use Rattle.std.specs.Prelude.{ℕ, ◌+◌, List, [], ◌∷◌, ◌==◌, ◌&&◌, Bool, true}
 use Rattle.std.specs.Prelude.{false, not, Option, Some, None, length, nat_le, slice_get, slice_set, if◌then◌else◌}
 use Rattle.std.specs.Ordering.{match_ordering}
-use Rattle.exact_algebra.specs.Rational.{ℚ}
-use Rattle.exact_algebra.specs.Order.{cmp_ℚ}
+use Rattle.rational_laws.specs.Rational.{ℚ}
+use Rattle.rational_laws.specs.Order.{cmp_ℚ}
 use Rattle.loss_model.specs.declared.vertex.Side.{Side}
 use Rattle.loss_model.specs.declared.vertex.Side.TheVariants.{Up, Down, Basic}
 use Rattle.loss_model.specs.declared.process.Segment.{Segment}

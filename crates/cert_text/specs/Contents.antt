@@ -1,6 +1,6 @@
 -- Stated. What a certificate says, in ℚ: every number by its value.
 use Rattle.std.specs.Prelude.{List, map}
-use Rattle.exact_algebra.specs.Rational.{ℚ}
+use Rattle.rational_laws.specs.Rational.{ℚ}
 use Rattle.frac_core.specs.declared.frac128.Frac128.{Frac128}
 use Rattle.frac_core.specs.Values.{exact}
 use Rattle.loss_model.specs.declared.problem.Problem.{Problem}

@@ -1,6 +1,6 @@
 -- Inner. What is left of a reading where the keys of an object are read that have values of their own.
 use Rattle.std.specs.Prelude.{ℕ, List, Option, Ok, codes, map}
-use Rattle.exact_algebra.specs.Rational.{ℚ}
+use Rattle.rational_laws.specs.Rational.{ℚ}
 use Rattle.loss_model.specs.declared.process.Segment.{Segment}
 use Rattle.loss_model.specs.declared.interval.Bound.TheVariants.{Finite, Infinite}
 use Rattle.loss_model.specs.declared.interval.Beyond.TheVariants.{Outside, Ray}

@@ -3,7 +3,7 @@
 use Rattle.std.specs.Prelude.{ℕ, ◌+◌, ◌^◌, ◌-◌, List, [], ◌∷◌, ◌++◌, Option, Some, None, Result, Ok, Err, nat_lt, option_and_then, ⊤, if◌then◌else◌}
 use Rattle.std.specs.Ordering.{nat_cmp, match_ordering}
 use Rattle.std.specs.Cmp.Lexicographic.{slice_cmp}
-use Rattle.exact_algebra.specs.Rational.{ℚ}
+use Rattle.rational_laws.specs.Rational.{ℚ}
 use Rattle.frac_core.specs.NumberText.{number_of}
 use Rattle.frac_core.specs.declared.number_reader.NumberFault.{NumberFault}
 use Rattle.serde_json.specs.Data.{Data, Items, no_items, item, Members, no_members, member}

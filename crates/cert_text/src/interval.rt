@@ -1,7 +1,7 @@
 //! Rank intervals and their ends.
 
 ghost use Rattle.std.specs.Prelude.{◌≡◌, ◌≢◌, ◌<◌, ◌^◌, ℕ, Bool, List, Ok, Err, true, false, map, option_and_then, IfOk, IfErr};
-ghost use Rattle.exact_algebra.specs.Rational.{ℚ};
+ghost use Rattle.rational_laws.specs.Rational.{ℚ};
 ghost use Rattle.loss_model.specs.declared.interval.Bound.TheVariants.{Finite, Infinite};
 ghost use Rattle.loss_model.specs.declared.interval.Beyond.TheVariants.{Outside, Ray};
 ghost use Rattle.loss_model.specs.declared.interval.End.{End as end_type};

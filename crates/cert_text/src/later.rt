@@ -1,7 +1,7 @@
 //! Segments of which only what changes is written.
 
 ghost use Rattle.std.specs.Prelude.{◌≡◌, ◌≢◌, Ok, Err, codes, map, IfOk, IfErr};
-ghost use Rattle.exact_algebra.specs.Rational.{ℚ};
+ghost use Rattle.rational_laws.specs.Rational.{ℚ};
 ghost use Rattle.loss_model.specs.declared.process.Segment.{Segment as segment_type};
 ghost use Rattle.serde_json.specs.View.{view, members_view};
 ghost use Rattle.frac_core.specs.Values.{exact};

@@ -1,7 +1,7 @@
 //! Rows whose side changes from one segment to the next.
 
 ghost use Rattle.std.specs.Prelude.{◌≡◌, ◌≢◌, ◌<◌, ◌≤◌, ◌^◌, Ok, Err, Some, None, codes, length, map, option_and_then, if◌then◌else◌, IfOk, IfErr};
-ghost use Rattle.exact_algebra.specs.Rational.{ℚ};
+ghost use Rattle.rational_laws.specs.Rational.{ℚ};
 ghost use Rattle.loss_model.specs.declared.vertex.Side.{Side as side_type};
 ghost use Rattle.serde_json.specs.Data.{string, no_members, member};
 ghost use Rattle.serde_json.specs.View.{view, members_view};

@@ -1,7 +1,7 @@
 //! Fractions and counts.
 
 ghost use Rattle.std.specs.Prelude.{◌≡◌, ◌<◌, ◌^◌, ℕ};
-ghost use Rattle.exact_algebra.specs.Rational.{ℚ};
+ghost use Rattle.rational_laws.specs.Rational.{ℚ};
 ghost use Rattle.serde_json.specs.Data.{number, unsigned};
 ghost use Rattle.frac_core.specs.Values.{exact};
 ghost use Rattle.cert_text.specs.Reading.{fraction, count};

@@ -1,7 +1,7 @@
 //! Rows of a problem.
 
 ghost use Rattle.std.specs.Prelude.{◌≡◌, ◌≢◌, Ok, Err, IfOk, IfErr};
-ghost use Rattle.exact_algebra.specs.Rational.{ℚ};
+ghost use Rattle.rational_laws.specs.Rational.{ℚ};
 ghost use Rattle.loss_model.specs.declared.problem.Row.{Row as row_type};
 ghost use Rattle.serde_json.specs.View.{view, members_view};
 ghost use Rattle.loss_model.specs.Values.{exact_row};

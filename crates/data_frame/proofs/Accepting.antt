@@ -10,7 +10,7 @@ use Rattle.std.proofs.lemmas.Slice.Eq.{bytes_eq-Decides}
 use mathlib.Core.Bool.{or-false}
 use Rattle.data_frame.specs.Records.{Row, Text, are_text}
 use Rattle.data_frame.specs.Faults.{first_fault, header_fault, name_fault, names_fault, names_of, row_fault, rows_fault, set_aside}
-use Rattle.exact_algebra.specs.Rational.{ℚ}
+use Rattle.rational_laws.specs.Rational.{ℚ}
 use Rattle.frac_core.specs.declared.frac128.Frac128.{Frac128}
 use Rattle.data_frame.specs.Tables.{TableOf, table_of_records, table_under, unless}
 use Rattle.data_frame.specs.Views.{exact_table}

@@ -1,6 +1,6 @@
 -- How many names a table has.
 use Rattle.std.proofs.Common.{◌≡◌, ◌≤◌, ℕ, List, [], ◌∷◌, Option, Some, None, Ok, length, refl, subst, ap, arith, length-drop}
-use Rattle.exact_algebra.specs.Rational.{ℚ}
+use Rattle.rational_laws.specs.Rational.{ℚ}
 use Rattle.data_frame.specs.Records.{Row, records_of}
 use Rattle.data_frame.specs.Faults.{first_fault, header_fault, names_of, rows_fault, set_aside}
 use Rattle.data_frame.specs.Tables.{TableOf, table_of, table_of_records, table_under, unless}

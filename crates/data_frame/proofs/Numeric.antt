@@ -3,8 +3,8 @@ use Rattle.std.proofs.Common.{◌≡◌, ◌∙◌, ◌<◌, ◌+◌, ◌-◌, �
 use Rattle.std.proofs.Common.{None, Result, Ok, Err, is_some, length, drop, take, get_or, map, refl, sym, ap, add-one, arith, nat_le, unsigned_abs, if◌then◌else◌}
 use Rattle.std.specs.List.{list_all, position_from}
 use Rattle.std.specs.Result.{is_ok}
-use Rattle.exact_algebra.specs.Fraction.{Fraction, rational}
-use Rattle.exact_algebra.specs.Rational.{ℚ}
+use Rattle.rational_laws.specs.Fraction.{Fraction, rational}
+use Rattle.rational_laws.specs.Rational.{ℚ}
 use Rattle.frac_core.specs.NumberText.{in_range, is_number_text, number_of, written}
 use Rattle.frac_core.specs.declared.number_reader.NumberFault.{NumberFault}
 use Rattle.frac_core.specs.declared.number_reader.NumberFault.TheVariants.{NotANumber, TooWide}

@@ -3,7 +3,7 @@ use Rattle.std.specs.Prelude.{ℕ, ◌-◌, ◌^◌, ◌==◌, ◌||◌, Bool, t
 use Rattle.std.specs.Prelude.{Option, Some, None, Result, Ok, Err, codes, length, map, reverse, if◌then◌else◌}
 use Rattle.std.specs.List.{list_all, position_from}
 use Rattle.std.specs.Str.{bytes_eq}
-use Rattle.exact_algebra.specs.Rational.{ℚ}
+use Rattle.rational_laws.specs.Rational.{ℚ}
 use Rattle.frac_core.specs.NumberText.{is_number_text, number_of}
 use Rattle.frac_core.specs.declared.number_reader.NumberFault.{NumberFault}
 use Rattle.frac_core.specs.declared.number_reader.NumberFault.TheVariants.{TooWide}

@@ -1,7 +1,7 @@
 -- Stated. The table of bytes.
 use Rattle.std.specs.Prelude.{ℕ, List, [], ◌∷◌, Option, Some, None, Result, Ok, Err, length, map, option_and_then, position, slice_get}
 use Rattle.std.specs.Str.{bytes_eq}
-use Rattle.exact_algebra.specs.Rational.{ℚ}
+use Rattle.rational_laws.specs.Rational.{ℚ}
 use Rattle.data_frame.specs.Records.{Row, Text, records_of}
 use Rattle.data_frame.specs.Faults.{first_fault, names_of, set_aside}
 use Rattle.data_frame.specs.Columns.{columns_from}

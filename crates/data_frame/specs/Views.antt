@@ -1,6 +1,6 @@
 -- Stated. How contracts see columns and tables whose numbers are the program's fractions.
 use Rattle.std.specs.Prelude.{map, option_map}
-use Rattle.exact_algebra.specs.Rational.{ℚ}
+use Rattle.rational_laws.specs.Rational.{ℚ}
 use Rattle.frac_core.specs.declared.frac128.Frac128.{Frac128}
 use Rattle.frac_core.specs.Values.{exact}
 use Rattle.data_frame.specs.Cells.{ColumnOf, numbers, factor, too_wide}

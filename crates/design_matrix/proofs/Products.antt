@@ -1,7 +1,7 @@
 -- Products with one more factor.
 use Rattle.std.proofs.Common.{◌≡◌, ◌<◌, ℕ, ◌+◌, List, [], ◌∷◌, ◌++◌, length, map, take, pos, refl, sym, ap, ◌∙◌, arith, get_or, Bool, true, false, leb, leb-true, leb-false, ◌^◌, ◌-◌}
 use Rattle.std.proofs.lemmas.List.{get_or-map, length-map, take_more}
-use Rattle.exact_algebra.specs.Rational.{ℚ, ◌*ℚ◌, whole}
+use Rattle.rational_laws.specs.Rational.{ℚ, ◌*ℚ◌, whole}
 use Rattle.frac_core.specs.declared.frac128.Frac128.{Frac128}
 use Rattle.frac_core.specs.Values.{exact, value}
 use Rattle.design_matrix.specs.Products.{FitUpTo, IsValue, product, product_onto}

@@ -4,7 +4,7 @@ use Rattle.std.specs.Prelude.{bytes_eq, cond, slice_get}
 use Rattle.std.specs.List.{list_any}
 use Rattle.std.proofs.lemmas.List.{get_or-map, get_or-take, length-map, map-append, take-map, take_more}
 use Rattle.std.proofs.lemmas.Option.{get_or_from_slice_get, slice_get-map, slice_get_read, slice_get_within}
-use Rattle.exact_algebra.specs.Rational.{ℚ, ◌-ℚ◌}
+use Rattle.rational_laws.specs.Rational.{ℚ, ◌-ℚ◌}
 use Rattle.frac_core.specs.Overflow.{Overflows}
 use Rattle.frac_core.specs.declared.exact.OpKind.TheVariants.{Sub}
 use Rattle.frac_core.specs.declared.frac128.Frac128.{Frac128}

@@ -1,7 +1,7 @@
 -- Stated. What the arithmetics of a formula come to in the records of a table. Records are counted from 0 here.
 use Rattle.std.specs.Prelude.{◌<◌, ◌^◌, ℕ, ◌++◌, List, [], ◌∷◌, bytes_eq, cond, map}
 use Rattle.std.specs.List.{list_any}
-use Rattle.exact_algebra.specs.Rational.{ℚ, ◌-ℚ◌}
+use Rattle.rational_laws.specs.Rational.{ℚ, ◌-ℚ◌}
 use Rattle.frac_core.specs.declared.arith.Arith.{Arith}
 use Rattle.formula_arith.specs.declared.fault.ArithFault.{ArithFault}
 use Rattle.formula_arith.specs.declared.fault.ArithFault.TheVariants.{OutOfMemory, Overflow}

@@ -1,6 +1,6 @@
 -- Stated. The design of a table and a formula.
 use Rattle.std.specs.Prelude.{◌≡◌, ◌<◌, ◌≤◌, ℕ, ◌+◌, ◌-◌, ◌^◌, List, [], ◌∷◌, Option, Some, length, map, min, pos, All, slice_get, slice_index_or, take}
-use Rattle.exact_algebra.specs.Rational.{ℚ, ◌-ℚ◌, whole}
+use Rattle.rational_laws.specs.Rational.{ℚ, ◌-ℚ◌, whole}
 use Rattle.contrasts.specs.declared.Coding.{Coding}
 use Rattle.frac_core.specs.declared.arith.Arith.{Arith}
 use Rattle.frac_core.specs.declared.exact.Op.{Op}

@@ -1,7 +1,7 @@
 -- Stated. The columns of a design.
 use Rattle.std.specs.Prelude.{ℕ, ◌*◌, ◌/◌, ◌%◌, ◌++◌, Bool, true, false, List, [], ◌∷◌, codes, length, map, pos, slice_index_or}
 use Rattle.std.specs.List.{flat_map, range_with_len}
-use Rattle.exact_algebra.specs.Rational.{ℚ, whole}
+use Rattle.rational_laws.specs.Rational.{ℚ, whole}
 use Rattle.contrasts.specs.declared.Coding.{Coding}
 use Rattle.contrasts.specs.Coding.{entry_of, label_of}
 use Rattle.data_frame.specs.Records.{Text}

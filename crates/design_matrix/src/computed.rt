@@ -3,7 +3,7 @@
 ghost use Rattle.std.specs.Prelude.{◌≡◌, ◌⊎◌, ◌<◌, ◌+◌, ◌^◌, ◌++◌, [], All, None, Some, IfErr, IfOk, OnOk, bytes_eq, length, map, pos, slice_get, slice_index_or, take, List as list};
 ghost use Rattle.std.specs.List.{flat_map, list_any};
 ghost use Rattle.std.proofs.Props.{props};
-ghost use Rattle.exact_algebra.specs.Rational.{whole, ℚ_set};
+ghost use Rattle.rational_laws.specs.Rational.{whole, ℚ_set};
 ghost use Rattle.frac_core.specs.declared.arith.Arith.{Arith as Held};
 ghost use Rattle.frac_core.specs.declared.frac128.Frac128.{Frac128 as Fraction128};
 ghost use Rattle.frac_core.specs.Values.{exact};

@@ -1,6 +1,6 @@
 -- The code of a tree leaves its value, by its operations.
 use Rattle.std.proofs.Common.{◌≡◌, ◌-◌, List, [], ◌∷◌, ◌++◌, append-nil, refl, sym, ◌∙◌, ap, append_assoc, subst}
-use Rattle.exact_algebra.specs.Rational.{ℚ, ◌*ℚ◌, neg_ℚ}
+use Rattle.rational_laws.specs.Rational.{ℚ, ◌*ℚ◌, neg_ℚ}
 use Rattle.frac_core.specs.declared.arith.ArithOp.{ArithOp}
 use Rattle.frac_core.specs.declared.arith.ArithOp.TheVariants.{Negate, Mul}
 use Rattle.frac_core.specs.declared.arith.ArithOp.TheVariants.{Power as Raise}

@@ -1,7 +1,7 @@
 //! The values that wait for an operator, and the steps that take them.
 
 ghost use Rattle.std.specs.Prelude.{◌≡◌, ◌∷◌, ◌+◌, ◌<◌, ◌^◌, [], map, pos, slice_index_or, IfErr, IfOk, OnOk};
-ghost use Rattle.exact_algebra.specs.Rational.{whole};
+ghost use Rattle.rational_laws.specs.Rational.{whole};
 ghost use Rattle.frac_core.specs.Values.{exact};
 ghost use Rattle.formula_arith.specs.declared.fault.ArithFault.TheVariants.{OutOfMemory};
 ghost use Rattle.formula_arith.specs.Codes.{numbered};

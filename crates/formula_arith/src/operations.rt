@@ -1,7 +1,7 @@
 //! Operations by their numbers: each gives the exact value, or the fault that names it.
 
 ghost use Rattle.std.specs.Prelude.{◌≡◌, ◌∷◌, [], ◌+◌, ◌-◌, ◌<◌, ◌^◌, IfErr, IfOk, OnOk};
-ghost use Rattle.exact_algebra.specs.Rational.{◌+ℚ◌, ◌-ℚ◌, ◌*ℚ◌};
+ghost use Rattle.rational_laws.specs.Rational.{◌+ℚ◌, ◌-ℚ◌, ◌*ℚ◌};
 ghost use Rattle.frac_core.specs.Values.{exact};
 ghost use Rattle.formula_arith.specs.Arithmetics.{Plus, Minus};
 ghost use Rattle.formula_arith.specs.Values.{multiplication, power_multiplications, raised_by, signed_operation};

@@ -8,7 +8,7 @@ use Rattle.std.specs.List.{prefix_len}
 use Rattle.std.proofs.lemmas.Bool.Decides.{nat_tests}
 use Rattle.std.proofs.lemmas.List.{take_more, take-take, take-append-drop}
 use Rattle.std.proofs.lemmas.Bool.{and_parts}
-use Rattle.exact_algebra.specs.Fraction.{Fraction}
+use Rattle.rational_laws.specs.Fraction.{Fraction}
 use Rattle.frac_core.specs.NumberText.{are_digits, decimal_form, is_exponent_mark, is_number_text, is_point, is_slash, is_zero_digit, with_sign, written, written_body, written_fraction}
 use Rattle.frac_core.specs.NumberReading.{front, rest, scan, scan_decimal, scan_from}
 use Rattle.frac_core.proofs.DigitSteps.{digit_is}

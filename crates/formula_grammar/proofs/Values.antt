@@ -6,9 +6,9 @@ use Rattle.std.proofs.Math.Nat.{div-mul_cancel}
 use Rattle.std.specs.Str.Parse.{starts_with_minus}
 use Rattle.std.proofs.lemmas.Bool.Decides.{nat_tests}
 use mathlib.Core.HLevel.{is_prop→PathP}
-use Rattle.exact_algebra.specs.Fraction.{Fraction, rational}
-use Rattle.exact_algebra.specs.Rational.{ℚ, quotient, whole}
-use Rattle.exact_algebra.proofs.Quotients.{quotient-one}
+use Rattle.rational_laws.specs.Fraction.{Fraction, rational}
+use Rattle.rational_laws.specs.Rational.{ℚ, quotient, whole}
+use Rattle.rational_laws.proofs.Quotients.{quotient-one}
 use Rattle.frac_core.specs.Gcd.{gcd, gcd-is}
 use Rattle.frac_core.specs.NumberText.{in_range, number_of, with_sign, written, written_body}
 use Rattle.frac_core.specs.declared.frac128.Frac128.{Frac128}

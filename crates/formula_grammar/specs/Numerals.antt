@@ -2,7 +2,7 @@
 use Rattle.std.specs.Prelude.{ℕ, ◌/◌, Bool, false, Option, Some, None, is_none, pos}
 use Rattle.std.proofs.Common.{lit≤}
 use Rattle.frac_core.specs.Gcd.{gcd}
-use Rattle.exact_algebra.specs.Rational.{ℚ, whole}
+use Rattle.rational_laws.specs.Rational.{ℚ, whole}
 use Rattle.frac_core.specs.declared.frac128.Frac128.{Frac128}
 use Rattle.frac_core.specs.Values.{exact}
 use Rattle.formula_grammar.specs.Magnitudes.{Magnitude, capped, lowest_within}

@@ -1,6 +1,6 @@
 //! Tokens, and where they stand.
 ghost use Rattle.std.specs.Prelude.{◌≡◌, pos};
-ghost use Rattle.exact_algebra.specs.Rational.{whole};
+ghost use Rattle.rational_laws.specs.Rational.{whole};
 ghost use Rattle.frac_core.specs.Values.{exact};
 ghost use Rattle.formula_grammar.specs.Numerals.{fraction_of, fraction_or_zero, is_wide, one_fraction, power_of, value_of, value_or_zero, zero_fraction};
 

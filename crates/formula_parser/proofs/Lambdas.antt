@@ -1,11 +1,11 @@
 -- No lambda of a formula is negative: the number of a token has no sign.
 use Rattle.std.proofs.Common.{◌≡◌, ◌<◌, [], ◌∷◌, ℕ, zero, suc, List, Option, Some, None, pos, map, length, get_or, refl, sym, ap, subst, arith, unsigned_abs}
-use Rattle.exact_algebra.specs.Fraction.{rational}
-use Rattle.exact_algebra.specs.Rational.{◌≤ℚ◌, inverse, whole}
-use Rattle.exact_algebra.specs.Solver.{number, ◌⊠◌, v0}
-use Rattle.exact_algebra.proofs.OrderLaws.{inverse_not_negative}
-use Rattle.exact_algebra.proofs.RationalLaws.{≤ℚ_mul, ring_ℚ}
-use Rattle.exact_algebra.proofs.Signs.{whole_not_negative}
+use Rattle.rational_laws.specs.Fraction.{rational}
+use Rattle.rational_laws.specs.Rational.{◌≤ℚ◌, inverse, whole}
+use Rattle.rational_laws.specs.Solver.{number, ◌⊠◌, v0}
+use Rattle.rational_laws.proofs.OrderLaws.{inverse_not_negative}
+use Rattle.rational_laws.proofs.RationalLaws.{≤ℚ_mul, ring_ℚ}
+use Rattle.rational_laws.proofs.Signs.{whole_not_negative}
 use Rattle.formula_grammar.specs.Codes.{smooths_of}
 use Rattle.formula_grammar.specs.declared.magnitude.Magnitude.{Magnitude}
 use Rattle.formula_grammar.specs.Numerals.{value_of, value_or_zero}

@@ -1,6 +1,6 @@
 -- Law. What the grammar leaves of a formula's lambdas, arithmetics and numbers of parts; each law is a clause of a function.
 use Rattle.std.specs.Prelude.{◌<◌, ◌≤◌, ◌^◌, List, All, length, pos}
-use Rattle.exact_algebra.specs.Rational.{◌≤ℚ◌, whole}
+use Rattle.rational_laws.specs.Rational.{◌≤ℚ◌, whole}
 use Rattle.formula_parser.specs.Parsed.{IsParsed, exact, Formula}
 use Rattle.formula_parser.specs.Scope.{Text}
 use Rattle.formula_parser.specs.Held.{IsHeld, ariths_of}

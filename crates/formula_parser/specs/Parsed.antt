@@ -4,7 +4,7 @@ use Rattle.std.specs.Prelude.{map, zip, length, Option, Some, None, is_none, Res
 use Rattle.std.specs.List.{filter}
 use Rattle.std.specs.List.Sorted.{IsPermutation, IsSortedByKey, IsStableByKey}
 use Rattle.std.specs.Ordering.{nat_cmp}
-use Rattle.exact_algebra.specs.Rational.{ℚ}
+use Rattle.rational_laws.specs.Rational.{ℚ}
 use Rattle.formula_parser.specs.Words.{Span, Kind, Name, Token, SmoothPart}
 use Rattle.formula_grammar.specs.declared.fault.ReadFault.TheVariants as read_fault
 use Rattle.formula_grammar.specs.Numerals.{value_of}

@@ -15,8 +15,8 @@ use Rattle.std.proofs.lemmas.Nat.{pow-add}
 use Rattle.std.proofs.lemmas.List.{append-nil, length-append, take_all}
 use Rattle.std.proofs.lemmas.List.Sums.{suffix_len-le-length}
 use mathlib.Core.Bool.{and-false}
-use Rattle.exact_algebra.specs.Rational.{ℚ, ◌*ℚ◌, inverse, whole}
-use Rattle.exact_algebra.specs.Fraction.{Fraction, rational}
+use Rattle.rational_laws.specs.Rational.{ℚ, ◌*ℚ◌, inverse, whole}
+use Rattle.rational_laws.specs.Fraction.{Fraction, rational}
 use Rattle.frac_core.specs.NumberText.{are_digits, number_of, written, decimal_form, decimal_of, in_range, is_exponent_mark, with_sign, written_decimal}
 use Rattle.frac_core.specs.NumberText.{is_point, is_slash, is_zero_digit, scaled, significand, with_exponent, written_body, written_fraction}
 use Rattle.frac_core.specs.NumberReading.{front, rest, within, fraction_of, IsWithin, HasRead, scan_decimal, scan_from}

@@ -8,7 +8,7 @@ use Rattle.std.proofs.lemmas.Bool.Decides.{nat_tests}
 use Rattle.std.proofs.lemmas.Bool.{false≢true, true≢false, and_parts}
 use Rattle.std.proofs.lemmas.List.{append-nil, append_assoc, take-append-drop}
 use mathlib.Core.Bool.{and-false}
-use Rattle.exact_algebra.specs.Fraction.{Fraction}
+use Rattle.rational_laws.specs.Fraction.{Fraction}
 use Rattle.frac_core.specs.NumberText.{are_digits, decimal_form, is_exponent_mark, is_point, is_slash, written_body, written_decimal, written_fraction}
 use Rattle.frac_core.specs.NumberReading.{front, rest, scan, scan_decimal, scan_from}
 

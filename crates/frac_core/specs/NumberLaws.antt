@@ -3,7 +3,7 @@ use Rattle.std.specs.Prelude.{◌≡◌, ℕ, ◌+◌, ◌-◌, ◌*◌, ◌%◌
 use Rattle.std.specs.List.{suffix_len}
 use Rattle.std.specs.Str.{all_ascii_digits}
 use Rattle.std.specs.Str.Parse.{digits_value}
-use Rattle.exact_algebra.specs.Fraction.{Fraction, rational}
+use Rattle.rational_laws.specs.Fraction.{Fraction, rational}
 use Rattle.frac_core.specs.Overflow.{IsWithin}
 use Rattle.frac_core.specs.NumberText.{in_range, is_zero_digit, number_of, number_text_of, scaled, significand}
 use Rattle.frac_core.specs.declared.number_reader.NumberFault.TheVariants.{TooWide}

@@ -1,6 +1,6 @@
 -- Stated. When an operation on fractions of limited size is refused (Knuth, TAOCP 4.5.1, for the sum).
 use Rattle.std.specs.Prelude.{ℕ, ℤ, pos, ◌≡◌, ◌*◌, ◌/◌, ◌≤◌, ◌+ℤ◌, ◌*ℤ◌, neg_ℤ, unsigned_abs, int_lt, if◌then◌else◌}
-use Rattle.exact_algebra.specs.Fraction.{Fraction}
+use Rattle.rational_laws.specs.Fraction.{Fraction}
 use Rattle.frac_core.specs.Gcd.{gcd}
 use Rattle.frac_core.specs.declared.exact.OpKind.{OpKind}
 use Rattle.frac_core.specs.declared.exact.OpKind.TheVariants.{Add, Sub, Mul, Div}

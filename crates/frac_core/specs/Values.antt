@@ -1,6 +1,6 @@
 -- Stated. Fractions of the program by their values.
-use Rattle.exact_algebra.specs.Fraction.{Fraction, rational}
-use Rattle.exact_algebra.specs.Rational.{ℚ}
+use Rattle.rational_laws.specs.Fraction.{Fraction, rational}
+use Rattle.rational_laws.specs.Rational.{ℚ}
 use Rattle.frac_core.specs.declared.frac64.Frac64.{Frac64}
 use Rattle.frac_core.specs.declared.frac128.Frac128.{Frac128}
 

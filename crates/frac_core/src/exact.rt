@@ -1,8 +1,8 @@
 //! The trait of exact fractions of a bounded size, and the operations that these may refuse.
 ghost use Rattle.std.specs.Prelude.{◌≡◌, ◌≢◌, ◌↔◌, ◌-◌, ◌^◌, ◌≤◌, ◌⊎◌, pos, ℕ, ℤ, unsigned_abs, IfOk, IfErr, IsErr, IfSome, IsNone, IsTrue};
-ghost use Rattle.exact_algebra.specs.Fraction.{Fraction, rational};
-ghost use Rattle.exact_algebra.specs.Rational.{◌+ℚ◌, ◌-ℚ◌, ◌*ℚ◌, neg_ℚ, inverse, whole};
-ghost use Rattle.exact_algebra.specs.Order.{cmp_ℚ, sign_ℚ};
+ghost use Rattle.rational_laws.specs.Fraction.{Fraction, rational};
+ghost use Rattle.rational_laws.specs.Rational.{◌+ℚ◌, ◌-ℚ◌, ◌*ℚ◌, neg_ℚ, inverse, whole};
+ghost use Rattle.rational_laws.specs.Order.{cmp_ℚ, sign_ℚ};
 ghost use Rattle.frac_core.specs.Overflow.{IsWithin, ReducesWithin, Overflows};
 
 use std::cmp::Ordering;

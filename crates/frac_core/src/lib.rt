@@ -4,7 +4,7 @@
 //! the operation exactly where a number that it needs is out of range. `Frac128` and `Frac64`
 //! implement it, and `widen` and `narrow` lead from one to the other. `read_number` and
 //! `number_text` read and write their texts, for every type that implements it. `Arith` holds the
-//! arithmetic of a formula, which layers above read and evaluate. The crate stands on `exact_algebra`, whose field ℚ its clauses speak of, and on
+//! arithmetic of a formula, which layers above read and evaluate. The crate stands on `rational_laws`, whose field ℚ its clauses speak of, and on
 //! `itoa` for the digits of whole numbers.
 //! Its cases stand in `cases`.
 //!

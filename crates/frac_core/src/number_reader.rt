@@ -2,7 +2,7 @@
 ghost use Rattle.std.specs.Prelude.{◌≡◌, ◌<◌, ◌≤◌, ◌+◌, ◌^◌, ◌++◌, true, Ok, Err, Some, IfSome, MatchOption, MatchResult, IfOk, length, ℕ, pos, neg_ℤ, if◌then◌else◌};
 ghost use Rattle.std.specs.Str.{all_ascii_digits};
 ghost use Rattle.std.specs.Str.Parse.{digits_value, starts_with_minus, without_leading_sign};
-ghost use Rattle.exact_algebra.specs.Fraction.{rational};
+ghost use Rattle.rational_laws.specs.Fraction.{rational};
 ghost use Rattle.frac_core.specs.NumberText.{number_of, written_body, written_fraction, decimal_form, with_exponent, scaled};
 ghost use Rattle.frac_core.specs.NumberReading.{HasRead, IsMantissa, IsWithin, fraction_of, within, scan_decimal};
 

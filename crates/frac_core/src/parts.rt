@@ -15,9 +15,9 @@ pub(crate) struct Parts {
 
 impl Parts {
     ghost use Rattle.std.specs.Prelude.{◌≡◌, ◌≢◌, ◌↔◌, ◌⊎◌, ◌<◌, ◌≤◌, ◌*◌, ◌^◌, ◌*ℤ◌, pos, unsigned_abs, IfSome, IsSome, IsNone, IsTrue};
-    ghost use Rattle.exact_algebra.specs.Fraction.{rational};
-    ghost use Rattle.exact_algebra.specs.Rational.{◌+ℚ◌, ◌*ℚ◌, quotient, neg_ℚ, inverse, whole};
-    ghost use Rattle.exact_algebra.specs.Order.{cmp_ℚ, sign_ℚ};
+    ghost use Rattle.rational_laws.specs.Fraction.{rational};
+    ghost use Rattle.rational_laws.specs.Rational.{◌+ℚ◌, ◌*ℚ◌, quotient, neg_ℚ, inverse, whole};
+    ghost use Rattle.rational_laws.specs.Order.{cmp_ℚ, sign_ℚ};
     ghost use Rattle.frac_core.specs.Overflow.{IsWithin, ReducesWithin, SumFits, negated, inverse_of};
     ghost use Rattle.frac_core.specs.Parts.{fraction, IsExact, Cancelled};
 

@@ -4,13 +4,13 @@ use Rattle.std.specs.Ordering.{is_lt, is_gt}
 use Rattle.std.specs.Option.{option_map_or}
 use Rattle.std.proofs.Common.{arith, refl, sym, ap, ap₂, subst, ◌∙◌, inl, inr}
 use Rattle.std.proofs.lemmas.Option.{slice_get_read}
-use Rattle.exact_algebra.specs.Fraction.{Fraction, rational}
-use Rattle.exact_algebra.specs.Solver.{number, negated, ◌⊟◌, v0}
-use Rattle.exact_algebra.specs.Rational.{ℚ, ◌-ℚ◌, ◌*ℚ◌, neg_ℚ, inverse, whole, ◌≤ℚ◌}
-use Rattle.exact_algebra.proofs.RationalLaws.{ring_ℚ, ≤ℚ_refl}
-use Rattle.exact_algebra.specs.Order.{cmp_ℚ}
-use Rattle.exact_algebra.proofs.OrderLaws.{by_cmp, le_from_not}
-use Rattle.exact_algebra.proofs.Signs.{not_below}
+use Rattle.rational_laws.specs.Fraction.{Fraction, rational}
+use Rattle.rational_laws.specs.Solver.{number, negated, ◌⊟◌, v0}
+use Rattle.rational_laws.specs.Rational.{ℚ, ◌-ℚ◌, ◌*ℚ◌, neg_ℚ, inverse, whole, ◌≤ℚ◌}
+use Rattle.rational_laws.proofs.RationalLaws.{ring_ℚ, ≤ℚ_refl}
+use Rattle.rational_laws.specs.Order.{cmp_ℚ}
+use Rattle.rational_laws.proofs.OrderLaws.{by_cmp, le_from_not}
+use Rattle.rational_laws.proofs.Signs.{not_below}
 use Rattle.loss_model.specs.declared.problem.Row.{Row}
 use Rattle.loss_model.specs.declared.problem.Problem.{Problem}
 use Rattle.loss_model.specs.declared.spill.Spill.{Spill}
@@ -22,17 +22,17 @@ use Rattle.basis_model.specs.Basis.{bound_part, basic_dual}
 use Rattle.basic_solution.specs.declared.solution.BasicSolution.{BasicSolution}
 use Rattle.basic_solution.specs.Bases.{bound_of}
 use Rattle.basic_solution.specs.Solutions.{IsSolution}
-use Rattle.pivot_rule.specs.declared.direction.Direction.{Direction}
-use Rattle.pivot_rule.specs.declared.direction.Direction.TheVariants.{Upward, Downward}
-use Rattle.pivot_rule.specs.Duals.{◌<ℚ◌}
-use Rattle.walk_rule.specs.Families.{over_quantiles, IsOptimalIn}
-use Rattle.walk_rule.specs.Walks.{side_towards, slope_change, Crosses, IsNextBreak}
-use Rattle.walk_rule.specs.SlopeLaws.{crossing_of}
-use Rattle.walk_rule.specs.WalkSpills.{IsMeetingSpill, IsCrossingSpill}
-use Rattle.walk_rule.proofs.Breaks.{as_computed}
-use Rattle.walk_rule.proofs.Crossings.{quotient_is, rise_is}
-use Rattle.walk_rule.proofs.Lines.{le_by}
-use Rattle.walk_rule.proofs.Slopes.{crossing}
+use Rattle.pivot_model.specs.declared.direction.Direction.{Direction}
+use Rattle.pivot_model.specs.declared.direction.Direction.TheVariants.{Upward, Downward}
+use Rattle.pivot_model.specs.Duals.{◌<ℚ◌}
+use Rattle.walk_model.specs.Families.{over_quantiles, IsOptimalIn}
+use Rattle.walk_model.specs.Walks.{side_towards, slope_change, Crosses, IsNextBreak}
+use Rattle.walk_model.specs.SlopeLaws.{crossing_of}
+use Rattle.walk_model.specs.WalkSpills.{IsMeetingSpill, IsCrossingSpill}
+use Rattle.walk_model.proofs.Breaks.{as_computed}
+use Rattle.walk_model.proofs.Crossings.{quotient_is, rise_is}
+use Rattle.walk_model.proofs.Lines.{le_by}
+use Rattle.walk_model.proofs.Slopes.{crossing}
 use Rattle.fraction_tableau.specs.declared.crossings.Affine.{Affine}
 use Rattle.fraction_tableau.specs.declared.crossings.Breakpoint.{Breakpoint}
 use Rattle.fraction_tableau.specs.Crossings.{Gains, gain_on, IsMeeting, passes_at, IsFirst, IsFirstOf}

@@ -4,11 +4,11 @@ use Rattle.std.specs.Option.{option_map_or}
 use Rattle.std.proofs.Common.{arith, refl, sym, ap, subst, ◌∙◌, inl, inr}
 use Rattle.std.proofs.lemmas.Bool.{cases_lt}
 use Rattle.std.proofs.lemmas.Option.{slice_get_past}
-use Rattle.exact_algebra.specs.Fraction.{Fraction, rational}
-use Rattle.exact_algebra.specs.Solver.{number, ◌⊠◌, v0}
-use Rattle.exact_algebra.specs.Rational.{ℚ, ◌*ℚ◌, whole}
-use Rattle.exact_algebra.proofs.RationalLaws.{ring_ℚ}
-use Rattle.exact_algebra.proofs.RationalSumLaws.{sum_ℚ-same, sum_ℚ-zero}
+use Rattle.rational_laws.specs.Fraction.{Fraction, rational}
+use Rattle.rational_laws.specs.Solver.{number, ◌⊠◌, v0}
+use Rattle.rational_laws.specs.Rational.{ℚ, ◌*ℚ◌, whole}
+use Rattle.rational_laws.proofs.RationalLaws.{ring_ℚ}
+use Rattle.rational_laws.proofs.RationalSumLaws.{sum_ℚ-same, sum_ℚ-zero}
 use Rattle.loss_model.specs.declared.spill.Spill.{Spill}
 use Rattle.loss_model.specs.Sample.{Sample, residual}
 use Rattle.loss_model.specs.Problem.{value_at}
@@ -17,7 +17,7 @@ use Rattle.basis_model.specs.Basis.{coefficient, basic_dual}
 use Rattle.basis_model.specs.BasisSpills.{IsDualValueSpill, IsBasisSpill}
 use Rattle.basic_solution.specs.declared.solution.BasicSolution.{BasicSolution}
 use Rattle.basic_solution.specs.Solutions.{IsSolution}
-use Rattle.walk_rule.specs.WalkSpills.{IsSegmentEnd, IsEndSpill, of_dual, IsStaySpill, of_basis, of_lo, of_hi}
+use Rattle.walk_model.specs.WalkSpills.{IsSegmentEnd, IsEndSpill, of_dual, IsStaySpill, of_basis, of_lo, of_hi}
 use Rattle.tableau_model.specs.Places.{Place, at_of, sample_of, IsPlace}
 use Rattle.fraction_tableau.specs.Next.{IsDualFault}
 use Rattle.fraction_tableau.proofs.Lists.{value_read}

@@ -4,10 +4,10 @@ use Rattle.std.specs.Option.{option_map_or}
 use Rattle.std.proofs.Common.{arith, refl, sym, ap, subst, ◌∙◌, length-set}
 use Rattle.std.proofs.lemmas.List.{map-set}
 use Rattle.std.proofs.lemmas.Option.{slice_get_past}
-use Rattle.exact_algebra.specs.Fraction.{Fraction, rational}
-use Rattle.exact_algebra.specs.Rational.{ℚ, whole}
-use Rattle.exact_matrices.specs.Matrices.{AreInverse, coordinate}
-use Rattle.exact_matrices.proofs.MatrixLaws.{AreInverse-same}
+use Rattle.rational_laws.specs.Fraction.{Fraction, rational}
+use Rattle.rational_laws.specs.Rational.{ℚ, whole}
+use Rattle.rational_laws.specs.Matrices.{AreInverse, coordinate}
+use Rattle.rational_laws.proofs.MatrixLaws.{AreInverse-same}
 use Rattle.loss_model.specs.declared.problem.Row.{Row}
 use Rattle.loss_model.specs.declared.problem.Problem.{Problem}
 use Rattle.loss_model.specs.Problem.{value_at, sample}
@@ -19,7 +19,7 @@ use Rattle.basis_inverse.proofs.Lists.{beyond_ends}
 use Rattle.basis_inverse.proofs.Underway.{IsRead, at_row}
 use Rattle.basis_model.specs.Basis.{IsBasis}
 use Rattle.basic_solution.specs.Bases.{HasBasis}
-use Rattle.pivot_rule.specs.Trails.{EndsAt}
+use Rattle.pivot_model.specs.Trails.{EndsAt}
 use Rattle.fraction_tableau.specs.Inverses.{IsInverseOf}
 
 pub basis_of : {F : Type 0} (value : F → Fraction) (p : Problem F) (basis : List ℕ) (s : Square F) → IsInverseOf value p basis s → IsBasis (sample value p) (slice_index basis) (inverse_entry value s)

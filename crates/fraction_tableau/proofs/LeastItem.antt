@@ -2,15 +2,15 @@
 use Rattle.std.specs.Prelude.{◌≡◌, ◌≢◌, ◌⊎◌, ℕ, ◌+◌, ◌<◌, Bool, true, false, ◌==◌, List, length, get_or}
 use Rattle.std.proofs.Common.{arith, refl, sym, ap, ap₂, subst, ◌∙◌, inl, inr}
 use borrow.Author.Tests.{eqb-true, eqb-false}
-use Rattle.exact_algebra.specs.Fraction.{Fraction}
+use Rattle.rational_laws.specs.Fraction.{Fraction}
 use Rattle.loss_model.specs.declared.spill.Short.{Short}
 use Rattle.loss_model.specs.Quantities.{IsShortOf}
-use Rattle.exact_algebra.specs.Rational.{ℚ}
+use Rattle.rational_laws.specs.Rational.{ℚ}
 use Rattle.loss_model.specs.Sample.{Sample}
 use Rattle.basic_solution.specs.Bases.{IsColumnSpill}
-use Rattle.pivot_rule.specs.declared.direction.Direction.{Direction}
-use Rattle.pivot_rule.specs.Steps.{moves}
-use Rattle.walk_rule.specs.Walks.{IsFirstMover}
+use Rattle.pivot_model.specs.declared.direction.Direction.{Direction}
+use Rattle.pivot_model.specs.Steps.{moves}
+use Rattle.walk_model.specs.Walks.{IsFirstMover}
 use Rattle.fraction_tableau.specs.declared.line.Line.{Line}
 use Rattle.fraction_tableau.specs.declared.line.Mover.{Mover}
 use Rattle.fraction_tableau.specs.Lines.{model, at_of, inverse_of, IsLine, IsOrderSpill, at_coordinates, IsLineSpill, IsMover, AreMovers, row_at, is_moving, comes_before}

@@ -4,9 +4,9 @@ use Rattle.std.specs.Option.{option_map_or}
 use Rattle.std.proofs.Common.{arith, refl, sym, ap, ◌∙◌}
 use Rattle.std.proofs.lemmas.Option.{slice_get_read}
 use borrow.Author.Tests.{eqb-true, eqb-false}
-use Rattle.exact_algebra.specs.Fraction.{Fraction, rational}
-use Rattle.exact_algebra.specs.Rational.{ℚ, whole}
-use Rattle.exact_algebra.proofs.Lists.{pushed_last}
+use Rattle.rational_laws.specs.Fraction.{Fraction, rational}
+use Rattle.rational_laws.specs.Rational.{ℚ, whole}
+use Rattle.rational_laws.proofs.Lists.{pushed_last}
 use Rattle.loss_model.specs.Problem.{value_at}
 use Rattle.fraction_tableau.specs.Inverses.{HasValueAt}
 

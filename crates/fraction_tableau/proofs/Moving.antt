@@ -6,9 +6,9 @@ use Rattle.std.proofs.lemmas.Bool.{cases_lt}
 use Rattle.std.proofs.lemmas.List.{length_push}
 use Rattle.std.proofs.lemmas.Option.{slice_get_past, slice_get_read}
 use borrow.Author.Tests.{eqb-true, eqb-false}
-use Rattle.exact_algebra.specs.Fraction.{Fraction, rational}
-use Rattle.exact_algebra.specs.Rational.{ℚ, ◌*ℚ◌, inverse, whole}
-use Rattle.exact_algebra.proofs.Lists.{pushed_last}
+use Rattle.rational_laws.specs.Fraction.{Fraction, rational}
+use Rattle.rational_laws.specs.Rational.{ℚ, ◌*ℚ◌, inverse, whole}
+use Rattle.rational_laws.proofs.Lists.{pushed_last}
 use Rattle.frac_core.specs.Overflow.{Overflows}
 use Rattle.frac_core.specs.declared.exact.OpKind.TheVariants.{Div}
 use Rattle.loss_model.specs.declared.spill.Quantity.TheVariants.{PerturbedRatio}
@@ -24,12 +24,12 @@ use Rattle.basis_model.specs.Perturbed.{turned, perturbed_side}
 use Rattle.basis_model.proofs.Ratios.{abs_nonzero}
 use Rattle.basis_model.specs.Basis.{coord, outside_row, side_at}
 use Rattle.basic_solution.specs.Bases.{side_in}
-use Rattle.pivot_rule.specs.declared.direction.Direction.{Direction}
-use Rattle.pivot_rule.specs.declared.direction.Direction.TheVariants.{Upward, Downward}
-use Rattle.pivot_rule.specs.Steps.{is_towards, change, moves}
-use Rattle.pivot_rule.specs.Spills.{of_basis, of_ratio, of_tie, of_search}
-use Rattle.pivot_rule.proofs.Passing.{mover_some, mover_outside}
-use Rattle.pivot_rule.proofs.Sides.{side_outside}
+use Rattle.pivot_model.specs.declared.direction.Direction.{Direction}
+use Rattle.pivot_model.specs.declared.direction.Direction.TheVariants.{Upward, Downward}
+use Rattle.pivot_model.specs.Steps.{is_towards, change, moves}
+use Rattle.pivot_model.specs.Spills.{of_basis, of_ratio, of_tie, of_search}
+use Rattle.pivot_model.proofs.Passing.{mover_some, mover_outside}
+use Rattle.pivot_model.proofs.Sides.{side_outside}
 use Rattle.fraction_tableau.specs.declared.line.Line.{Line}
 use Rattle.fraction_tableau.specs.declared.line.Mover.{Mover}
 use Rattle.fraction_tableau.specs.Lines.{model, at_of, inverse_of, IsLine, IsOrderSpill, IsLineSpill, at_coordinates, at_ratio, at_tie, IsMover, AreMovers, AreMoversBelow, row_at, is_moving, side_is, coord_is, turned_by}

@@ -1,9 +1,9 @@
 -- The step that is left at a basis, from what is computed there.
 use Rattle.std.specs.Prelude.{◌≡◌, ℕ, ◌<◌, List, length, slice_get, unwrap_or, Option, Some}
 use Rattle.std.proofs.Common.{arith, sym, ap, ap₂, subst, ◌∙◌, inl, inr}
-use Rattle.exact_algebra.specs.Fraction.{Fraction, rational}
-use Rattle.exact_algebra.specs.Rational.{ℚ, ◌+ℚ◌, ◌*ℚ◌}
-use Rattle.exact_algebra.proofs.Lists.{item_there}
+use Rattle.rational_laws.specs.Fraction.{Fraction, rational}
+use Rattle.rational_laws.specs.Rational.{ℚ, ◌+ℚ◌, ◌*ℚ◌}
+use Rattle.rational_laws.proofs.Lists.{item_there}
 use Rattle.loss_model.specs.declared.spill.Spill.{Spill}
 use Rattle.loss_model.specs.declared.spill.Short.{Short}
 use Rattle.loss_model.specs.declared.vertex.Side.{Side}
@@ -17,8 +17,8 @@ use Rattle.basis_model.specs.BasisSpills.{IsBasisSpill, IsDualValueSpill}
 use Rattle.basic_solution.specs.declared.solution.BasicSolution.{BasicSolution}
 use Rattle.basic_solution.specs.Bases.{side_in, IsColumnSpill}
 use Rattle.basic_solution.specs.Solutions.{IsSolution}
-use Rattle.pivot_rule.specs.Steps.{slope, IsEntering}
-use Rattle.pivot_rule.specs.Spills.{IsStepSpill, of_basis, of_dual}
+use Rattle.pivot_model.specs.Steps.{slope, IsEntering}
+use Rattle.pivot_model.specs.Spills.{IsStepSpill, of_basis, of_dual}
 use Rattle.tableau_model.specs.Places.{Place, at_of as places, sample_of}
 use Rattle.fraction_tableau.specs.declared.line.Line.{Line}
 use Rattle.fraction_tableau.specs.Kept.{IsKept}

@@ -3,14 +3,14 @@ use Rattle.std.specs.Prelude.{◌≡◌, ◌≢◌, ◌⊎◌, ℕ, suc, ◌+◌
 use Rattle.std.proofs.Common.{arith, refl, sym, ap, ap₂, subst, ◌∙◌, inl, inr}
 use Rattle.std.proofs.lemmas.Bool.{cases_lt}
 use borrow.Author.Tests.{eqb-true, eqb-false}
-use Rattle.exact_algebra.specs.Fraction.{Fraction, rational}
-use Rattle.exact_algebra.specs.Solver.{number, ◌⊞◌, v0, v1, v2}
-use Rattle.exact_algebra.specs.Rational.{ℚ, ◌+ℚ◌, ◌*ℚ◌, whole, ◌≤ℚ◌}
-use Rattle.exact_algebra.proofs.RationalLaws.{ring_ℚ}
-use Rattle.exact_algebra.specs.RationalSums.{sum_ℚ}
-use Rattle.exact_algebra.proofs.RationalSumLaws.{sum_ℚ-same}
-use Rattle.exact_matrices.specs.Selections.{is_among, AreDistinct, among}
-use Rattle.exact_matrices.proofs.SelectionLaws.{sum_ℚ-among}
+use Rattle.rational_laws.specs.Fraction.{Fraction, rational}
+use Rattle.rational_laws.specs.Solver.{number, ◌⊞◌, v0, v1, v2}
+use Rattle.rational_laws.specs.Rational.{ℚ, ◌+ℚ◌, ◌*ℚ◌, whole, ◌≤ℚ◌}
+use Rattle.rational_laws.proofs.RationalLaws.{ring_ℚ}
+use Rattle.rational_laws.specs.RationalSums.{sum_ℚ}
+use Rattle.rational_laws.proofs.RationalSumLaws.{sum_ℚ-same}
+use Rattle.rational_laws.specs.Selections.{is_among, AreDistinct, among}
+use Rattle.rational_laws.proofs.SelectionLaws.{sum_ℚ-among}
 use Rattle.loss_model.specs.declared.spill.Spill.{Spill}
 use Rattle.loss_model.specs.declared.spill.Quantity.TheVariants.{Slope}
 use Rattle.loss_model.specs.Sample.{up_cost, down_cost}
@@ -18,12 +18,12 @@ use Rattle.loss_model.specs.Spill.{IsUpCostSpill, IsDownCostSpill, IsTermSpill, 
 use Rattle.loss_model.proofs.Products.{same_term}
 use Rattle.basis_model.specs.BasisSpills.{IsCostSumSpill}
 use Rattle.basis_model.specs.Basis.{coord}
-use Rattle.pivot_rule.specs.Steps.{slope}
-use Rattle.pivot_rule.specs.Spills.{direction_number, of_cost, of_search, of_cost_sum, of_passing}
-use Rattle.pivot_rule.proofs.Among.{among_at, among_place}
-use Rattle.pivot_rule.proofs.Counting.{count-same, count-among, count-at_most}
-use Rattle.pivot_rule.proofs.Entering.{enough}
-use Rattle.pivot_rule.proofs.Passing.{passed, passed_test}
+use Rattle.pivot_model.specs.Steps.{slope}
+use Rattle.pivot_model.specs.Spills.{direction_number, of_cost, of_search, of_cost_sum, of_passing}
+use Rattle.pivot_model.proofs.Among.{among_at, among_place}
+use Rattle.pivot_model.proofs.Counting.{count-same, count-among, count-at_most}
+use Rattle.pivot_model.proofs.Entering.{enough}
+use Rattle.pivot_model.proofs.Passing.{passed, passed_test}
 use Rattle.fraction_tableau.specs.declared.line.Line.{Line}
 use Rattle.fraction_tableau.specs.declared.line.Mover.{Mover}
 use Rattle.fraction_tableau.specs.Heaps.{IsHeapFrom, IsPopped}

@@ -1,5 +1,5 @@
 -- What fractions keep is a place.
-use Rattle.exact_algebra.specs.Fraction.{Fraction}
+use Rattle.rational_laws.specs.Fraction.{Fraction}
 use Rattle.tableau_model.specs.Places.{IsPlace}
 use Rattle.fraction_tableau.specs.Kept.{Kept, IsKept, place}
 use Rattle.fraction_tableau.proofs.Inverses.{basis_of, ends_of}

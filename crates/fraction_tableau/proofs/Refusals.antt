@@ -1,13 +1,13 @@
 -- What fractions refuse to a question.
 use Rattle.std.specs.Prelude.{◌≡◌, ℕ}
 use Rattle.std.proofs.Common.{sym, subst, inl, inr}
-use Rattle.exact_algebra.specs.Fraction.{Fraction}
+use Rattle.rational_laws.specs.Fraction.{Fraction}
 use Rattle.loss_model.specs.declared.spill.Spill.{Spill}
 use Rattle.loss_model.specs.declared.spill.Short.{Short}
 use Rattle.loss_model.specs.declared.spill.Short.TheVariants.{OutOfMemory, Overflow}
 use Rattle.loss_model.specs.Quantities.{IsShortOf, IsExchangeSpill}
-use Rattle.pivot_rule.specs.Spills.{of_exchange, of_basis}
-use Rattle.walk_rule.specs.WalkSpills.{of_exchange as walk_exchange, of_basis as walk_basis, of_pivot}
+use Rattle.pivot_model.specs.Spills.{of_exchange, of_basis}
+use Rattle.walk_model.specs.WalkSpills.{of_exchange as walk_exchange, of_basis as walk_basis, of_pivot}
 use Rattle.tableau_model.specs.declared.refusal.Failure.{Failure}
 use Rattle.tableau_model.specs.Places.{Place, in_fractions, sample_of}
 use Rattle.tableau_model.specs.Questions.{Question, solving, walking, IsStepOf, IsSpillAt}

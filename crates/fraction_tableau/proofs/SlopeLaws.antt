@@ -4,24 +4,24 @@ use Rattle.std.specs.Ordering.{is_lt}
 use Rattle.std.proofs.Common.{arith, refl, sym, ap, ap₂, subst, ◌∙◌, inl, inr}
 use Rattle.std.proofs.lemmas.Result.{IfOk-weaker, IfErr-weaker}
 use borrow.Author.Tests.{eqb-true, eqb-false}
-use Rattle.walk_rule.proofs.Trails.{below_from}
-use Rattle.exact_algebra.specs.Fraction.{Fraction, rational}
-use Rattle.exact_algebra.specs.Rational.{ℚ, ◌+ℚ◌, ◌-ℚ◌, whole, ◌≤ℚ◌}
-use Rattle.exact_algebra.proofs.RationalLaws.{≤ℚ_refl, ≤ℚ_trans}
-use Rattle.exact_algebra.specs.Order.{cmp_ℚ, sign_ℚ}
-use Rattle.exact_algebra.proofs.OrderLaws.{sign_ℚ-below, sign_ℚ-not_below, le_from_not}
-use Rattle.exact_algebra.proofs.Signs.{not_below}
+use Rattle.walk_model.proofs.Trails.{below_from}
+use Rattle.rational_laws.specs.Fraction.{Fraction, rational}
+use Rattle.rational_laws.specs.Rational.{ℚ, ◌+ℚ◌, ◌-ℚ◌, whole, ◌≤ℚ◌}
+use Rattle.rational_laws.proofs.RationalLaws.{≤ℚ_refl, ≤ℚ_trans}
+use Rattle.rational_laws.specs.Order.{cmp_ℚ, sign_ℚ}
+use Rattle.rational_laws.proofs.OrderLaws.{sign_ℚ-below, sign_ℚ-not_below, le_from_not}
+use Rattle.rational_laws.proofs.Signs.{not_below}
 use Rattle.loss_model.specs.declared.spill.Spill.{Spill}
 use Rattle.loss_model.specs.declared.vertex.Side.{Side}
 use Rattle.loss_model.specs.declared.vertex.Side.TheVariants.{Up, Down}
 use Rattle.loss_model.specs.Sample.{Sample, up_cost, down_cost}
 use Rattle.basis_model.specs.Basis.{dual_value}
 use Rattle.basis_model.specs.BasisSpills.{IsSlopeSpill}
-use Rattle.pivot_rule.specs.declared.direction.Direction.{Direction}
-use Rattle.pivot_rule.specs.declared.direction.Direction.TheVariants.{Upward, Downward}
-use Rattle.pivot_rule.specs.Duals.{◌<ℚ◌}
-use Rattle.pivot_rule.specs.Steps.{slope, IsLeaving}
-use Rattle.pivot_rule.specs.Spills.{of_slope}
+use Rattle.pivot_model.specs.declared.direction.Direction.{Direction}
+use Rattle.pivot_model.specs.declared.direction.Direction.TheVariants.{Upward, Downward}
+use Rattle.pivot_model.specs.Duals.{◌<ℚ◌}
+use Rattle.pivot_model.specs.Steps.{slope, IsLeaving}
+use Rattle.pivot_model.specs.Spills.{of_slope}
 use Rattle.fraction_tableau.specs.declared.slopes.Leaving.{Leaving}
 use Rattle.fraction_tableau.specs.declared.slopes.Slopes.{Slopes}
 use Rattle.fraction_tableau.specs.Slopes.{IsLesser, IsLeast, IsSteeper, HasDuals, IsSlopesSpill, model, rows_of, inverse_of, slope_of}

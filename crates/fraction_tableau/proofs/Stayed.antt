@@ -2,12 +2,12 @@
 use Rattle.std.specs.Prelude.{◌≡◌, ◌↔◌, ℕ, List, length, Contains}
 use Rattle.std.specs.List.Sorted.{IsStrictlyIncreasing}
 use Rattle.std.proofs.Common.{refl, sym, ap, ◌∙◌}
-use Rattle.exact_algebra.specs.Fraction.{Fraction, rational}
-use Rattle.exact_algebra.specs.Rational.{ℚ}
+use Rattle.rational_laws.specs.Fraction.{Fraction, rational}
+use Rattle.rational_laws.specs.Rational.{ℚ}
 use Rattle.loss_model.specs.Sample.{loss}
 use Rattle.basic_solution.specs.declared.solution.BasicSolution.{BasicSolution}
 use Rattle.basic_solution.specs.Solutions.{IsSolution}
-use Rattle.pivot_rule.specs.Results.{IsVertexAt, AreBasicDuals}
+use Rattle.pivot_model.specs.Results.{IsVertexAt, AreBasicDuals}
 use Rattle.tableau_model.specs.Places.{Place, at_of, sample_of, IsPlace}
 use Rattle.tableau_model.specs.WalkAnswers.{IsSegmentHere}
 use Rattle.fraction_tableau.specs.declared.ends.EndValues.{EndValues}

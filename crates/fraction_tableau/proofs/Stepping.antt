@@ -1,25 +1,25 @@
 -- The walking step that is left at a basis.
 use Rattle.std.specs.Prelude.{◌≡◌, ℕ, ◌<◌, true, Option, Some, None, pos}
 use Rattle.std.proofs.Common.{sym, subst, inl, inr}
-use Rattle.exact_algebra.specs.Fraction.{Fraction, rational}
-use Rattle.exact_algebra.specs.Rational.{ℚ, whole, ◌≤ℚ◌}
-use Rattle.exact_algebra.proofs.RationalLaws.{≤ℚ_trans}
+use Rattle.rational_laws.specs.Fraction.{Fraction, rational}
+use Rattle.rational_laws.specs.Rational.{ℚ, whole, ◌≤ℚ◌}
+use Rattle.rational_laws.proofs.RationalLaws.{≤ℚ_trans}
 use Rattle.loss_model.specs.declared.process.Exchange.{Exchange}
 use Rattle.loss_model.specs.declared.spill.Spill.{Spill}
 use Rattle.loss_model.specs.Sample.{Sample}
 use Rattle.loss_model.specs.Spill.{AtSome}
 use Rattle.basis_model.specs.Basis.{IsBasis}
-use Rattle.pivot_rule.specs.declared.direction.Direction.{Direction}
-use Rattle.pivot_rule.specs.Duals.{◌<ℚ◌, HasCosts}
-use Rattle.pivot_rule.specs.Steps.{moves}
-use Rattle.walk_rule.specs.Families.{over_quantiles, IsOptimalIn}
-use Rattle.walk_rule.specs.Walks.{Crosses, IsNextBreak, IsWalkingStep}
-use Rattle.walk_rule.specs.WalkTrails.{is_below}
-use Rattle.walk_rule.specs.SlopeLaws.{crossing_of}
-use Rattle.walk_rule.specs.WalkSpills.{IsCrossingSpill, IsStaySpill, of_basis, of_crossing, of_pivot, of_ratio, of_tie}
-use Rattle.walk_rule.proofs.Movers.{some_row}
-use Rattle.walk_rule.proofs.Slopes.{slope_is}
-use Rattle.walk_rule.proofs.Trails.{below_from}
+use Rattle.pivot_model.specs.declared.direction.Direction.{Direction}
+use Rattle.pivot_model.specs.Duals.{◌<ℚ◌, HasCosts}
+use Rattle.pivot_model.specs.Steps.{moves}
+use Rattle.walk_model.specs.Families.{over_quantiles, IsOptimalIn}
+use Rattle.walk_model.specs.Walks.{Crosses, IsNextBreak, IsWalkingStep}
+use Rattle.walk_model.specs.WalkTrails.{is_below}
+use Rattle.walk_model.specs.SlopeLaws.{crossing_of}
+use Rattle.walk_model.specs.WalkSpills.{IsCrossingSpill, IsStaySpill, of_basis, of_crossing, of_pivot, of_ratio, of_tie}
+use Rattle.walk_model.proofs.Movers.{some_row}
+use Rattle.walk_model.proofs.Slopes.{slope_is}
+use Rattle.walk_model.proofs.Trails.{below_from}
 use Rattle.tableau_model.specs.WalkAnswers.{IsWalkingAnswer}
 use Rattle.fraction_tableau.specs.Kept.{place}
 use Rattle.fraction_tableau.specs.declared.crossings.Breakpoint.{Breakpoint}

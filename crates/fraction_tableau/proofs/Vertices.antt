@@ -4,19 +4,19 @@ use Rattle.std.specs.List.Sorted.{IsStrictlyIncreasing}
 use Rattle.std.specs.declared.cmp.Ordering.{Ordering}
 use Rattle.std.specs.declared.cmp.Ordering.TheVariants.{Less, Equal, Greater}
 use Rattle.std.proofs.Common.{arith, refl, sym, ap, ◌∙◌}
-use Rattle.exact_algebra.specs.Fraction.{Fraction}
-use Rattle.exact_algebra.specs.Rational.{ℚ}
-use Rattle.exact_matrices.specs.Selections.{is_among}
+use Rattle.rational_laws.specs.Fraction.{Fraction}
+use Rattle.rational_laws.specs.Rational.{ℚ}
+use Rattle.rational_laws.specs.Selections.{is_among}
 use Rattle.loss_model.specs.declared.vertex.Side.{Side}
 use Rattle.loss_model.specs.declared.vertex.Side.TheVariants.{Basic}
 use Rattle.loss_model.specs.Problem.{value_at}
 use Rattle.basis_model.specs.Perturbed.{side_of}
 use Rattle.basis_model.specs.Basis.{side_at}
-use Rattle.pivot_rule.specs.Duals.{dual}
-use Rattle.pivot_rule.specs.Results.{IsVertexAt, AreBasicDuals}
-use Rattle.pivot_rule.proofs.Among.{among_at, among_place}
-use Rattle.pivot_rule.proofs.Sides.{sign, side_basic, side_outside, dual_at}
-use Rattle.pivot_rule.proofs.Solved.{any_default}
+use Rattle.pivot_model.specs.Duals.{dual}
+use Rattle.pivot_model.specs.Results.{IsVertexAt, AreBasicDuals}
+use Rattle.pivot_model.proofs.Among.{among_at, among_place}
+use Rattle.pivot_model.proofs.Sides.{sign, side_basic, side_outside, dual_at}
+use Rattle.pivot_model.proofs.Solved.{any_default}
 use Rattle.tableau_model.specs.Places.{Place, IsPlace, at_of, sample_of}
 use Rattle.fraction_tableau.specs.declared.standing.Standing.{Standing}
 use Rattle.fraction_tableau.specs.Inverses.{HasValueAt}

@@ -1,13 +1,13 @@
 -- Inner. Crossings of the dual values of a basis as they are computed, and the first of them.
 use Rattle.std.specs.Prelude.{◌≡◌, ◌⊎◌, ℕ, ◌<◌, Option, Some, None, pos}
-use Rattle.exact_algebra.specs.Fraction.{Fraction, rational}
-use Rattle.exact_algebra.specs.Rational.{ℚ, ◌-ℚ◌, ◌*ℚ◌, inverse, whole, ◌≤ℚ◌}
+use Rattle.rational_laws.specs.Fraction.{Fraction, rational}
+use Rattle.rational_laws.specs.Rational.{ℚ, ◌-ℚ◌, ◌*ℚ◌, inverse, whole, ◌≤ℚ◌}
 use Rattle.loss_model.specs.Sample.{Sample}
 use Rattle.basis_model.specs.declared.part.Part.TheVariants.{Linear}
-use Rattle.pivot_rule.specs.declared.direction.Direction.{Direction}
-use Rattle.pivot_rule.specs.declared.direction.Direction.TheVariants.{Upward, Downward}
-use Rattle.pivot_rule.specs.Duals.{◌<ℚ◌}
-use Rattle.walk_rule.specs.Families.{over_quantiles, slope_part}
+use Rattle.pivot_model.specs.declared.direction.Direction.{Direction}
+use Rattle.pivot_model.specs.declared.direction.Direction.TheVariants.{Upward, Downward}
+use Rattle.pivot_model.specs.Duals.{◌<ℚ◌}
+use Rattle.walk_model.specs.Families.{over_quantiles, slope_part}
 use Rattle.fraction_tableau.specs.declared.crossings.Affine.{Affine}
 use Rattle.fraction_tableau.specs.declared.crossings.Breakpoint.{Breakpoint}
 

@@ -1,11 +1,11 @@
 -- Inner. The line search: along a line on which the loss falls, rows are passed until it does so no longer.
 use Rattle.std.specs.Prelude.{ℕ, ◌&&◌, length}
-use Rattle.exact_algebra.specs.Fraction.{Fraction, rational}
-use Rattle.exact_algebra.specs.Rational.{ℚ}
+use Rattle.rational_laws.specs.Fraction.{Fraction, rational}
+use Rattle.rational_laws.specs.Rational.{ℚ}
 use Rattle.loss_model.specs.declared.spill.Spill.{Spill}
-use Rattle.pivot_rule.specs.Duals.{HasCosts}
-use Rattle.pivot_rule.specs.Steps.{slope, passing, slope_before, IsLeaving, IsEntering}
-use Rattle.pivot_rule.specs.Spills.{IsStepSpill, count}
+use Rattle.pivot_model.specs.Duals.{HasCosts}
+use Rattle.pivot_model.specs.Steps.{slope, passing, slope_before, IsLeaving, IsEntering}
+use Rattle.pivot_model.specs.Spills.{IsStepSpill, count}
 use Rattle.fraction_tableau.specs.declared.line.Line.{Line}
 use Rattle.fraction_tableau.specs.Lines.{model, at_of, inverse_of, IsLine, is_moving, comes_before}
 

@@ -1,12 +1,12 @@
 -- Inner. The two ends of a segment.
 use Rattle.std.specs.Prelude.{◌≡◌, ◌⊎◌, ℕ, ◌<◌, List, length}
-use Rattle.exact_algebra.specs.Fraction.{Fraction, rational}
-use Rattle.exact_algebra.specs.Rational.{ℚ}
+use Rattle.rational_laws.specs.Fraction.{Fraction, rational}
+use Rattle.rational_laws.specs.Rational.{ℚ}
 use Rattle.loss_model.specs.declared.spill.Spill.{Spill}
 use Rattle.loss_model.specs.Sample.{loss}
 use Rattle.basis_model.specs.Basis.{coefficient}
 use Rattle.basis_model.specs.BasisSpills.{IsBasisSpill}
-use Rattle.walk_rule.specs.WalkSpills.{IsEndSpill}
+use Rattle.walk_model.specs.WalkSpills.{IsEndSpill}
 use Rattle.tableau_model.specs.Places.{Place, at_of, sample_of}
 use Rattle.fraction_tableau.specs.declared.view.BasisView.{BasisView}
 use Rattle.fraction_tableau.specs.declared.ends.End.{End}

@@ -1,6 +1,6 @@
 -- Inner. The inverse of a basis, and the order of its rows.
 use Rattle.std.specs.Prelude.{◌≡◌, ℕ, ◌<◌, List, length, slice_index}
-use Rattle.exact_algebra.specs.Fraction.{Fraction}
+use Rattle.rational_laws.specs.Fraction.{Fraction}
 use Rattle.loss_model.specs.declared.problem.Problem.{Problem}
 use Rattle.loss_model.specs.Problem.{value_at}
 use Rattle.loss_model.specs.Greedy.{basis_rows}

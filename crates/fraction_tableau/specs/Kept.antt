@@ -1,6 +1,6 @@
 -- Inner. The basis that the body of fractions keeps.
 use Rattle.std.specs.Prelude.{ℕ, List}
-use Rattle.exact_algebra.specs.Fraction.{Fraction}
+use Rattle.rational_laws.specs.Fraction.{Fraction}
 use Rattle.loss_model.specs.declared.problem.Problem.{Problem}
 use Rattle.loss_model.specs.Problem.{IsWellShaped}
 use Rattle.basis_inverse.specs.Square.{Square, inverse_entry}

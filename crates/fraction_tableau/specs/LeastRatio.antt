@@ -1,11 +1,11 @@
 -- Inner. The first of the rows that move on a line.
 use Rattle.std.specs.Prelude.{◌≡◌, ◌⊎◌, ℕ, ◌<◌, Bool, true, false, Option, Some, None}
-use Rattle.exact_algebra.specs.Fraction.{Fraction}
-use Rattle.exact_algebra.specs.Rational.{ℚ}
+use Rattle.rational_laws.specs.Fraction.{Fraction}
+use Rattle.rational_laws.specs.Rational.{ℚ}
 use Rattle.loss_model.specs.Sample.{Sample}
-use Rattle.pivot_rule.specs.declared.direction.Direction.{Direction}
-use Rattle.pivot_rule.specs.Steps.{moves}
-use Rattle.walk_rule.specs.Walks.{IsFirstMover}
+use Rattle.pivot_model.specs.declared.direction.Direction.{Direction}
+use Rattle.pivot_model.specs.Steps.{moves}
+use Rattle.walk_model.specs.Walks.{IsFirstMover}
 use Rattle.fraction_tableau.specs.declared.line.Line.{Line}
 use Rattle.fraction_tableau.specs.Lines.{model, at_of, inverse_of}
 

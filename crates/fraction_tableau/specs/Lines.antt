@@ -1,8 +1,8 @@
 -- Inner. The line along which a position leaves, and the rows that move on it.
 use Rattle.std.specs.Prelude.{◌≡◌, ◌≢◌, ℕ, ◌<◌, Bool, true, List, length, slice_get, slice_index, Some}
 use Rattle.std.specs.Option.{option_map_or}
-use Rattle.exact_algebra.specs.Fraction.{Fraction, rational}
-use Rattle.exact_algebra.specs.Rational.{ℚ, neg_ℚ}
+use Rattle.rational_laws.specs.Fraction.{Fraction, rational}
+use Rattle.rational_laws.specs.Rational.{ℚ, neg_ℚ}
 use Rattle.loss_model.specs.declared.spill.Spill.{Spill}
 use Rattle.loss_model.specs.Sample.{Sample, residual}
 use Rattle.loss_model.specs.Problem.{value_at, sample}
@@ -14,9 +14,9 @@ use Rattle.lex_rule.specs.declared.less.Ratio.{Ratio}
 use Rattle.lex_rule.specs.Compared.{of_ratio, IsRatioAt}
 use Rattle.basic_solution.specs.Bases.{side_in}
 use Rattle.loss_model.specs.declared.vertex.Side.{Side}
-use Rattle.pivot_rule.specs.declared.direction.Direction.{Direction}
-use Rattle.pivot_rule.specs.declared.direction.Direction.TheVariants.{Upward, Downward}
-use Rattle.pivot_rule.specs.Steps.{moves, is_before}
+use Rattle.pivot_model.specs.declared.direction.Direction.{Direction}
+use Rattle.pivot_model.specs.declared.direction.Direction.TheVariants.{Upward, Downward}
+use Rattle.pivot_model.specs.Steps.{moves, is_before}
 use Rattle.loss_model.specs.Quantities.{IsCoordinatesSpill}
 use Rattle.basis_model.specs.RatioSpill.{IsRatioEntrySpill, IsRatioSpill}
 use Rattle.fraction_tableau.specs.declared.line.Line.{Line}

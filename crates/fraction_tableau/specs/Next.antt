@@ -1,11 +1,11 @@
 -- Inner. What is left at a basis.
 use Rattle.std.specs.Prelude.{ℕ}
-use Rattle.exact_algebra.specs.Fraction.{Fraction}
-use Rattle.exact_algebra.specs.Rational.{ℚ}
+use Rattle.rational_laws.specs.Fraction.{Fraction}
+use Rattle.rational_laws.specs.Rational.{ℚ}
 use Rattle.loss_model.specs.declared.spill.Spill.{Spill}
 use Rattle.loss_model.specs.Spill.{AtSome}
 use Rattle.basis_model.specs.BasisSpills.{IsDualValueSpill}
-use Rattle.pivot_rule.specs.Steps.{IsSolvingStep}
+use Rattle.pivot_model.specs.Steps.{IsSolvingStep}
 use Rattle.tableau_model.specs.Places.{Place, at_of, sample_of}
 use Rattle.tableau_model.specs.Answers.{IsOptimalAt}
 use Rattle.fraction_tableau.specs.declared.standing.Next.{Next}

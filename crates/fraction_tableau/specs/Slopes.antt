@@ -1,15 +1,15 @@
 -- Inner. The slopes of the loss at a basis, by the dual values at its positions.
 use Rattle.std.specs.Prelude.{◌≡◌, ◌⊎◌, ℕ, ◌<◌, Option, Some, None, slice_index}
-use Rattle.exact_algebra.specs.Fraction.{Fraction, rational}
-use Rattle.exact_algebra.specs.Rational.{ℚ, ◌≤ℚ◌}
+use Rattle.rational_laws.specs.Fraction.{Fraction, rational}
+use Rattle.rational_laws.specs.Rational.{ℚ, ◌≤ℚ◌}
 use Rattle.loss_model.specs.declared.spill.Spill.{Spill}
 use Rattle.loss_model.specs.Problem.{sample}
 use Rattle.loss_model.specs.Sample.{Sample}
 use Rattle.basis_inverse.specs.Square.{inverse_entry}
-use Rattle.pivot_rule.specs.declared.direction.Direction.{Direction}
-use Rattle.pivot_rule.specs.Duals.{◌<ℚ◌}
-use Rattle.pivot_rule.specs.Steps.{slope, HasNoNegativeSlope, IsLeaving}
-use Rattle.pivot_rule.specs.Spills.{IsStepSpill}
+use Rattle.pivot_model.specs.declared.direction.Direction.{Direction}
+use Rattle.pivot_model.specs.Duals.{◌<ℚ◌}
+use Rattle.pivot_model.specs.Steps.{slope, HasNoNegativeSlope, IsLeaving}
+use Rattle.pivot_model.specs.Spills.{IsStepSpill}
 use Rattle.fraction_tableau.specs.declared.slopes.Leaving.{Leaving}
 use Rattle.fraction_tableau.specs.declared.slopes.Slopes.{Slopes}
 use Rattle.fraction_tableau.specs.Kept.{IsKept, place}

@@ -1,11 +1,11 @@
 -- Inner. The walking step over quantiles that is left at a basis.
 use Rattle.std.specs.Prelude.{◌≡◌, ℕ, Option, Some, None}
-use Rattle.exact_algebra.specs.Fraction.{Fraction, rational}
-use Rattle.exact_algebra.specs.Rational.{ℚ, ◌≤ℚ◌}
+use Rattle.rational_laws.specs.Fraction.{Fraction, rational}
+use Rattle.rational_laws.specs.Rational.{ℚ, ◌≤ℚ◌}
 use Rattle.loss_model.specs.declared.process.Exchange.{Exchange}
 use Rattle.loss_model.specs.declared.spill.Spill.{Spill}
-use Rattle.pivot_rule.specs.Duals.{◌<ℚ◌}
-use Rattle.walk_rule.specs.Walks.{IsFirstMover}
+use Rattle.pivot_model.specs.Duals.{◌<ℚ◌}
+use Rattle.walk_model.specs.Walks.{IsFirstMover}
 use Rattle.fraction_tableau.specs.declared.crossings.Breakpoint.{Breakpoint}
 use Rattle.fraction_tableau.specs.declared.view.BasisView.{BasisView}
 use Rattle.fraction_tableau.specs.Lines.{IsOrderSpill}

@@ -1,8 +1,8 @@
 //! What fractions answer to a solve.
 ghost use Rattle.std.specs.Prelude.{IfOk, IfErr, slice_index};
-ghost use Rattle.exact_algebra.specs.Fraction.{rational};
+ghost use Rattle.rational_laws.specs.Fraction.{rational};
 ghost use Rattle.loss_model.specs.Problem.{sample};
-ghost use Rattle.pivot_rule.specs.Duals.{HasCosts};
+ghost use Rattle.pivot_model.specs.Duals.{HasCosts};
 ghost use Rattle.tableau_model.specs.Questions.{solving};
 ghost use Rattle.tableau_model.specs.Refusals.{IsRefusalAt, IsRefusedOf};
 ghost use Rattle.tableau_model.specs.Answers.{IsOptimalAt, IsSolvingAnswer, IsFitted};

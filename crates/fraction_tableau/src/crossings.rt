@@ -1,22 +1,22 @@
 //! The next breakpoint of a walk: where a dual value of the basis first passes beyond a bound.
 ghost use Rattle.std.specs.Prelude.{◌≡◌, ◌↔◌, ◌<◌, IfOk, IfErr, IsTrue, pos};
-ghost use Rattle.exact_algebra.specs.Fraction.{rational};
-ghost use Rattle.exact_algebra.specs.Rational.{◌-ℚ◌};
+ghost use Rattle.rational_laws.specs.Fraction.{rational};
+ghost use Rattle.rational_laws.specs.Rational.{◌-ℚ◌};
 ghost use Rattle.loss_model.specs.Spill.{AtSome};
 ghost use Rattle.basis_model.specs.declared.part.Part.TheVariants.{Constant, Linear};
 ghost use Rattle.basic_solution.specs.Bases.{bound_of};
-ghost use Rattle.pivot_rule.specs.declared.direction.Direction.{Direction};
-ghost use Rattle.pivot_rule.specs.Spills.{direction_number};
-ghost use Rattle.walk_rule.specs.Walks.{side_towards};
-ghost use Rattle.walk_rule.specs.SlopeLaws.{crossing_of};
-ghost use Rattle.walk_rule.specs.WalkSpills.{IsMeetingSpill, IsCrossingSpill};
+ghost use Rattle.pivot_model.specs.declared.direction.Direction.{Direction};
+ghost use Rattle.pivot_model.specs.Spills.{direction_number};
+ghost use Rattle.walk_model.specs.Walks.{side_towards};
+ghost use Rattle.walk_model.specs.SlopeLaws.{crossing_of};
+ghost use Rattle.walk_model.specs.WalkSpills.{IsMeetingSpill, IsCrossingSpill};
 ghost use Rattle.fraction_tableau.specs.Views.{IsView, sample_at, rows_at, entries_at};
 ghost use Rattle.fraction_tableau.specs.Crossings.{Gains, gain_on, IsMeeting, IsSooner, passes_at, IsCrossingAt, IsFirstOf};
 
 use crate::view::BasisView;
 use frac_core::Exact;
 use loss_model::{Quantity, Row, Site, Spill, minus_at, over_at};
-use pivot_rule::Direction;
+use pivot_model::Direction;
 
 /// A number that is affine in the quantile: `constant + linear * theta`.
 #[derive(Clone, Copy)]

@@ -1,12 +1,12 @@
 //! The two ends of a segment: the dual values of the basis and the loss there.
 ghost use Rattle.std.specs.Prelude.{◌≡◌, ℕ, ◌<◌, length, slice_index, Contains, IfOk, IfErr};
-ghost use Rattle.exact_algebra.specs.Fraction.{rational};
-ghost use Rattle.exact_algebra.specs.Rational.{ℚ};
+ghost use Rattle.rational_laws.specs.Fraction.{rational};
+ghost use Rattle.rational_laws.specs.Rational.{ℚ};
 ghost use Rattle.loss_model.specs.Sample.{residual, loss};
 ghost use Rattle.loss_model.specs.Spill.{side_cost, abs_ℚ, IsSideCostSpill};
 ghost use Rattle.loss_model.specs.Quantities.{IsShortOf};
 ghost use Rattle.basis_model.specs.Basis.{coefficient};
-ghost use Rattle.walk_rule.specs.WalkSpills.{IsSegmentEnd, IsEndSpill, IsStaySpill};
+ghost use Rattle.walk_model.specs.WalkSpills.{IsSegmentEnd, IsEndSpill, IsStaySpill};
 ghost use Rattle.fraction_tableau.specs.Kept.{place};
 ghost use Rattle.fraction_tableau.specs.Views.{IsView, sample_at, rows_at, entries_at};
 ghost use Rattle.fraction_tableau.specs.Ends.{end_number, IsEnded, IsEndedSpill};

@@ -1,7 +1,7 @@
 //! A basis in fractions: its rows, their inverse, and the exchange of one.
 ghost use Rattle.std.specs.Prelude.{◌≡◌, ◌≢◌, ◌<◌, ℕ, length, slice_index, slice_set, IfOk, IfErr, OnOk, pos};
-ghost use Rattle.exact_algebra.specs.Fraction.{rational};
-ghost use Rattle.exact_algebra.specs.Rational.{whole};
+ghost use Rattle.rational_laws.specs.Fraction.{rational};
+ghost use Rattle.rational_laws.specs.Rational.{whole};
 ghost use Rattle.loss_model.specs.Sample.{up_cost, down_cost};
 ghost use Rattle.loss_model.specs.Spill.{IsUpCostSpill, IsDownCostSpill};
 ghost use Rattle.loss_model.specs.Quantities.{IsShortOf, IsCoordinatesSpill, IsExchangeSpill};

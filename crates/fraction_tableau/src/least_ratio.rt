@@ -5,8 +5,8 @@ ghost use Rattle.loss_model.specs.Problem.{sample};
 ghost use Rattle.loss_model.specs.Quantities.{IsShortOf};
 ghost use Rattle.basis_inverse.specs.Square.{inverse_entry};
 ghost use Rattle.basic_solution.specs.Solutions.{IsSolution};
-ghost use Rattle.pivot_rule.specs.Steps.{moves};
-ghost use Rattle.walk_rule.specs.Walks.{IsFirstMover};
+ghost use Rattle.pivot_model.specs.Steps.{moves};
+ghost use Rattle.walk_model.specs.Walks.{IsFirstMover};
 ghost use Rattle.fraction_tableau.specs.Kept.{IsKept};
 ghost use Rattle.fraction_tableau.specs.Views.{IsView, sample_at, rows_at, entries_at};
 ghost use Rattle.fraction_tableau.specs.Lines.{IsLine, IsOrderSpill, IsLineSpill, AreMovers, row_at, comes_before};
@@ -21,7 +21,7 @@ use crate::view::BasisView;
 use basic_solution::BasicSolution;
 use frac_core::Exact;
 use loss_model::Short;
-use pivot_rule::Direction;
+use pivot_model::Direction;
 
 /// The one of two movers that comes first.
 fn earlier<F: Exact>(

@@ -1,7 +1,7 @@
 //! The line along which a position leaves, and the rows that move on it.
 use crate::fractions::FractionTableau;
 use frac_core::Exact;
-use pivot_rule::Direction;
+use pivot_model::Direction;
 
 /// The line along which the row at a position leaves the basis at a quantile: the residuals of all rows
 /// where it begins, and the direction.

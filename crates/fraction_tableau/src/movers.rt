@@ -1,16 +1,16 @@
 //! The rows that move towards 0 as a position leaves.
 ghost use Rattle.std.specs.Prelude.{◌≡◌, ℕ, ◌+◌, ◌<◌, length, IfOk, IfErr, OnOk, true};
-ghost use Rattle.exact_algebra.specs.Fraction.{rational};
+ghost use Rattle.rational_laws.specs.Fraction.{rational};
 ghost use Rattle.loss_model.specs.Quantities.{IsShortOf};
 ghost use Rattle.loss_model.specs.Spill.{abs_ℚ};
 ghost use Rattle.basis_model.specs.Perturbed.{turned as turned_on};
-ghost use Rattle.pivot_rule.specs.Steps.{is_towards};
+ghost use Rattle.pivot_model.specs.Steps.{is_towards};
 ghost use Rattle.fraction_tableau.specs.Lines.{IsLine, IsLineSpill, IsMover, AreMovers, AreMoversBelow, HasSides, HasCoordinates, is_moving, side_is, coord_is, turned_by};
 
 use crate::line::{Line, Mover};
 use frac_core::Exact;
 use loss_model::{Quantity, Short, Side, Site, Spill, over_at};
-use pivot_rule::Direction;
+use pivot_model::Direction;
 use std::alloc::Global;
 
 /// The size of a value.

@@ -1,10 +1,10 @@
 //! The line search: the rows that move are passed until the slope is no longer negative.
 ghost use Rattle.std.specs.Prelude.{◌≡◌, ℕ, ◌+◌, ◌<◌, ◌≤◌, length, IfOk, IfErr};
-ghost use Rattle.exact_algebra.specs.Fraction.{rational};
-ghost use Rattle.exact_algebra.specs.Rational.{◌+ℚ◌};
+ghost use Rattle.rational_laws.specs.Fraction.{rational};
+ghost use Rattle.rational_laws.specs.Rational.{◌+ℚ◌};
 ghost use Rattle.frac_core.specs.Limits.{most_rows};
 ghost use Rattle.loss_model.specs.Quantities.{IsShortOf};
-ghost use Rattle.pivot_rule.specs.Spills.{direction_number};
+ghost use Rattle.pivot_model.specs.Spills.{direction_number};
 ghost use Rattle.fraction_tableau.specs.Lines.{IsMover, AreMovers};
 ghost use Rattle.fraction_tableau.specs.Descents.{IsDescent, IsDescentSpill, Enters, first_slope, slope_until, passed_until, passing_of};
 
@@ -13,7 +13,7 @@ use crate::line::{Line, Mover};
 use basic_solution::cost_sum;
 use frac_core::Exact;
 use loss_model::{Quantity, Short, Site, Spill, plus_product};
-use pivot_rule::Direction;
+use pivot_model::Direction;
 
 /// The number of a direction in the site of a slope.
 fn number_of(direction: Direction) -> u32

@@ -1,13 +1,13 @@
 //! The position that leaves a basis.
 ghost use Rattle.std.specs.Prelude.{◌≡◌, ◌<◌, IfOk, IfErr};
-ghost use Rattle.exact_algebra.specs.Fraction.{rational};
+ghost use Rattle.rational_laws.specs.Fraction.{rational};
 ghost use Rattle.fraction_tableau.specs.Slopes.{HasDuals, slope_of, IsLesserOf, IsSteeper, IsLeavingOf, IsSlopesSpill};
 
 use crate::fractions::FractionTableau;
 use basic_solution::{slope_down, slope_up};
 use frac_core::Exact;
 use loss_model::Spill;
-use pivot_rule::Direction;
+use pivot_model::Direction;
 
 /// A slope of the loss: that of a position in a direction.
 #[derive(Clone, Copy)]

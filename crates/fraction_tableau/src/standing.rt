@@ -1,15 +1,15 @@
 //! What stands at a basis, and the step that is left there.
 ghost use Rattle.std.specs.Prelude.{◌≡◌, ℕ, ◌<◌, ◌≤◌, length, slice_index, IfOk, IfErr};
-ghost use Rattle.exact_algebra.specs.Fraction.{rational};
-ghost use Rattle.exact_algebra.specs.Rational.{◌+ℚ◌, ◌*ℚ◌};
+ghost use Rattle.rational_laws.specs.Fraction.{rational};
+ghost use Rattle.rational_laws.specs.Rational.{◌+ℚ◌, ◌*ℚ◌};
 ghost use Rattle.frac_core.specs.Limits.{most_columns};
 ghost use Rattle.loss_model.specs.Problem.{value_at, sample};
 ghost use Rattle.loss_model.specs.Quantities.{IsShortOf};
 ghost use Rattle.basis_inverse.specs.Square.{inverse_entry};
 ghost use Rattle.basic_solution.specs.Solutions.{IsSolution};
-ghost use Rattle.pivot_rule.specs.Duals.{HasCosts};
-ghost use Rattle.pivot_rule.specs.Steps.{slope, IsLeaving, IsEntering};
-ghost use Rattle.pivot_rule.specs.Spills.{IsStepSpill};
+ghost use Rattle.pivot_model.specs.Duals.{HasCosts};
+ghost use Rattle.pivot_model.specs.Steps.{slope, IsLeaving, IsEntering};
+ghost use Rattle.pivot_model.specs.Spills.{IsStepSpill};
 ghost use Rattle.fraction_tableau.specs.Kept.{IsKept, place};
 ghost use Rattle.fraction_tableau.specs.Next.{IsNext, IsDualFault};
 ghost use Rattle.fraction_tableau.specs.Slopes.{IsLeavingAt};

@@ -1,13 +1,13 @@
 //! What fractions answer to a walk over quantiles.
 ghost use Rattle.std.specs.Prelude.{◌<◌, IfOk, IfErr};
-ghost use Rattle.exact_algebra.specs.Fraction.{rational};
-ghost use Rattle.exact_algebra.specs.Rational.{ℚ};
+ghost use Rattle.rational_laws.specs.Fraction.{rational};
+ghost use Rattle.rational_laws.specs.Rational.{ℚ};
 ghost use Rattle.loss_model.specs.Problem.{sample};
 ghost use Rattle.loss_model.specs.Quantities.{IsShortOf};
-ghost use Rattle.pivot_rule.specs.Duals.{HasCosts};
-ghost use Rattle.walk_rule.specs.Families.{over_quantiles, IsOptimalIn};
-ghost use Rattle.walk_rule.specs.Walks.{Crosses};
-ghost use Rattle.walk_rule.specs.WalkSpills.{IsSegmentEnd, IsStaySpill};
+ghost use Rattle.pivot_model.specs.Duals.{HasCosts};
+ghost use Rattle.walk_model.specs.Families.{over_quantiles, IsOptimalIn};
+ghost use Rattle.walk_model.specs.Walks.{Crosses};
+ghost use Rattle.walk_model.specs.WalkSpills.{IsSegmentEnd, IsStaySpill};
 ghost use Rattle.tableau_model.specs.Places.{at_of, sample_of};
 ghost use Rattle.tableau_model.specs.Questions.{walking};
 ghost use Rattle.tableau_model.specs.Refusals.{IsRefusalAt, IsRefusedOf};

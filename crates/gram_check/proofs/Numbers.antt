@@ -4,16 +4,16 @@ use Rattle.std.specs.Option.{option_map_or}
 use Rattle.std.proofs.Common.{arith, refl, sym, ap, ap₂, subst, ◌∙◌, inl, inr}
 use Rattle.std.proofs.lemmas.Bool.{cases_lt}
 use Rattle.std.proofs.lemmas.Option.{slice_get_read}
-use Rattle.exact_algebra.specs.Solver.{number, ◌⊟◌, ◌⊞◌, v0, v1}
-use Rattle.exact_algebra.specs.Rational.{ℚ, ◌-ℚ◌, ◌+ℚ◌, ◌*ℚ◌, whole}
-use Rattle.exact_algebra.proofs.RationalLaws.{ring_ℚ}
-use Rattle.exact_algebra.specs.RationalSums.{sum_ℚ}
-use Rattle.exact_algebra.proofs.RationalSumLaws.{sum_ℚ-same}
+use Rattle.rational_laws.specs.Solver.{number, ◌⊟◌, ◌⊞◌, v0, v1}
+use Rattle.rational_laws.specs.Rational.{ℚ, ◌-ℚ◌, ◌+ℚ◌, ◌*ℚ◌, whole}
+use Rattle.rational_laws.proofs.RationalLaws.{ring_ℚ}
+use Rattle.rational_laws.specs.RationalSums.{sum_ℚ}
+use Rattle.rational_laws.proofs.RationalSumLaws.{sum_ℚ-same}
 use Rattle.loss_model.specs.Sample.{Sample}
-use Rattle.rank_law.specs.Restricted.{IsProjection, squared_length}
-use Rattle.rank_law.specs.Gram.{gram}
+use Rattle.rank_model.specs.Restricted.{IsProjection, squared_length}
+use Rattle.rank_model.specs.Gram.{gram}
 use Rattle.wide_int.specs.Numbers.{total}
-use Rattle.exact_algebra.specs.WholeLists.{whole_at}
+use Rattle.rational_laws.specs.WholeLists.{whole_at}
 use Rattle.whole_inverse.specs.Shares.{share, share_at}
 use Rattle.whole_inverse.proofs.ShareSums.{share-total}
 use Rattle.whole_inverse.proofs.Lists.{share_read}

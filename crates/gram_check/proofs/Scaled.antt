@@ -1,15 +1,15 @@
 -- Factors of a scaled problem.
 use Rattle.std.specs.Prelude.{◌≡◌, ◌≢◌, ℕ, ◌<◌, [], ◌∷◌, pos}
 use Rattle.std.proofs.Common.{refl, sym, ap, ap₂, subst, ◌∙◌}
-use Rattle.exact_algebra.specs.Solver.{number, ◌⊟◌, ◌⊠◌, v0, v1, v2, v3, v4, v5}
-use Rattle.exact_algebra.specs.Rational.{ℚ, ◌-ℚ◌, ◌*ℚ◌, inverse, whole}
-use Rattle.exact_algebra.proofs.RationalLaws.{ring_ℚ, *ℚ-inverse}
-use Rattle.exact_algebra.proofs.Inverses.{product_nonzero, zero_from_product}
-use Rattle.exact_algebra.specs.RationalSums.{sum_ℚ}
-use Rattle.exact_algebra.proofs.RationalSumLaws.{sum_ℚ-same, sum_ℚ-scale}
+use Rattle.rational_laws.specs.Solver.{number, ◌⊟◌, ◌⊠◌, v0, v1, v2, v3, v4, v5}
+use Rattle.rational_laws.specs.Rational.{ℚ, ◌-ℚ◌, ◌*ℚ◌, inverse, whole}
+use Rattle.rational_laws.proofs.RationalLaws.{ring_ℚ, *ℚ-inverse}
+use Rattle.rational_laws.proofs.Inverses.{product_nonzero, zero_from_product}
+use Rattle.rational_laws.specs.RationalSums.{sum_ℚ}
+use Rattle.rational_laws.proofs.RationalSumLaws.{sum_ℚ-same, sum_ℚ-scale}
 use Rattle.loss_model.specs.Sample.{Sample, fitted}
-use Rattle.rank_law.specs.Restricted.{projected, squared_length}
-use Rattle.scaled_model.specs.Scaled.{IsScaled}
+use Rattle.rank_model.specs.Restricted.{projected, squared_length}
+use Rattle.whole_rows.specs.Scaled.{IsScaled}
 use Rattle.gram_check.specs.Laws.{unscaled_factors, ProjectionOfScaled}
 
 module _ (p q : Sample) (s : ℕ → ℚ) (ly lc : ℚ) (j : ℕ) (c : ℕ → ℚ) (lj : j < p.columns) (h : IsScaled p q s ly lc) (some : (k : ℕ) → k < p.columns → s k ≢ whole (pos 0)) where

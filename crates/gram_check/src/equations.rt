@@ -1,7 +1,7 @@
 //! The normal equations of a column.
 ghost use Rattle.std.specs.Prelude.{◌≡◌, ◌≢◌, ◌<◌, ◌≤◌, ◌+ℤ◌, ◌*ℤ◌, neg_ℤ, All, length, IfOk, IsTrue, pos, get_or};
 ghost use Rattle.loss_model.specs.Sample.{Sample};
-ghost use Rattle.rank_law.specs.Restricted.{IsProjection};
+ghost use Rattle.rank_model.specs.Restricted.{IsProjection};
 ghost use Rattle.wide_int.specs.Numbers.{total};
 ghost use Rattle.whole_inverse.specs.Shares.{share_at};
 ghost use Rattle.gram_check.specs.Equations.{IsSumOf, HasGram};

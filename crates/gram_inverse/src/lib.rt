@@ -5,7 +5,7 @@
 //! where these overflow in fractions of any size: column by column that takes the orthogonal vector of the column, by which
 //! the inverse of the columns before it grows (Gram-Schmidt under the Gram matrix). A weighted column and the inner product
 //! of two lists stand beside it, since scores of columns are made of them. The crate stands on `ratio`, on the Gram matrix of
-//! `rank_law` and `gram_matrix`, and on the greedy start of `basis_inverse`.
+//! `rank_model` and `gram_matrix`, and on the greedy start of `basis_inverse`.
 //! Its cases stand in `cases`.
 //!
 //! `nested_test` calls it so:

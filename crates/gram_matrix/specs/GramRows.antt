@@ -1,11 +1,11 @@
 -- Inner. The weighted columns and the rows of the Gram matrix, as lists.
 use Rattle.std.specs.Prelude.{◌≡◌, ℕ, ◌<◌, List, length, slice_get, All, Some}
-use Rattle.exact_algebra.specs.Fraction.{Fraction}
+use Rattle.rational_laws.specs.Fraction.{Fraction}
 use Rattle.loss_model.specs.declared.problem.Problem.{Problem}
 use Rattle.loss_model.specs.declared.problem.Row.{Row}
 use Rattle.loss_model.specs.Problem.{value_at, sample}
 use Rattle.basis_inverse.specs.Square.{entries}
-use Rattle.rank_law.specs.Gram.{gram}
+use Rattle.rank_model.specs.Gram.{gram}
 use Rattle.gram_matrix.specs.Grams.{scaled}
 
 module _ {F : Type 0} (value : F → Fraction) (p : Problem F) where

@@ -2,7 +2,7 @@
 //!
 //! The one contract: `gram_problem` gives a problem whose rows are those of the matrix, so that a greedy start of it
 //! inverts the matrix, and `scaled_column` one column of weighted entries; or either names the operation that overflowed,
-//! as `specs/Grams.antt` has them. The crate stands on `loss_model` for problems, on `rank_law` for what the matrix is, and
+//! as `specs/Grams.antt` has them. The crate stands on `loss_model` for problems, on `rank_model` for what the matrix is, and
 //! on `basis_inverse` for the entries of lists of lists.
 //! Its cases stand in `cases`.
 //!

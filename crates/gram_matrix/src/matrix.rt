@@ -1,9 +1,9 @@
 //! The rows of the Gram matrix.
 ghost use Rattle.std.specs.Prelude.{◌≡◌, ◌<◌, length, IfOk, IfErr};
-ghost use Rattle.exact_algebra.specs.Fraction.{rational};
+ghost use Rattle.rational_laws.specs.Fraction.{rational};
 ghost use Rattle.loss_model.specs.Problem.{sample, IsWellShaped};
 ghost use Rattle.loss_model.specs.Quantities.{IsShortOf};
-ghost use Rattle.rank_law.specs.Gram.{gram, IsGramOf};
+ghost use Rattle.rank_model.specs.Gram.{gram, IsGramOf};
 ghost use Rattle.gram_matrix.specs.Grams.{IsGramSpill, IsGramEntrySpill, IsBeforeGram};
 ghost use Rattle.gram_matrix.specs.GramRows.{IsGramRow, AreScaled, AreGramRows};
 

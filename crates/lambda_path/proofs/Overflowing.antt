@@ -1,7 +1,7 @@
 -- Operations of costs that overflow, and those that don't.
 use Rattle.std.proofs.Common.{◌≡◌, ◌^◌, ◌-◌, ◌+◌, ◌<◌, ◌++◌, ℕ, suc, List, [], ◌∷◌, length, get_or, take, drop, length-take-le, take-append-drop, append_assoc, arith, inl, inr, refl, sym, ap, subst, ◌∙◌}
 use Rattle.std.proofs.lemmas.List.{take_more, drop_more}
-use Rattle.exact_algebra.specs.Rational.{ℚ}
+use Rattle.rational_laws.specs.Rational.{ℚ}
 use Rattle.frac_core.specs.Overflow.{Overflows as OverflowsAt}
 use Rattle.frac_core.specs.declared.exact.OpKind.{OpKind}
 use Rattle.frac_core.specs.declared.frac128.Frac128.{Frac128}

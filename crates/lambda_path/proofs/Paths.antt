@@ -4,23 +4,23 @@ use Rattle.std.specs.declared.cmp.Ordering.TheVariants.{Less}
 use Rattle.std.proofs.Common.{arith, refl, sym, ap, ap₂, subst, ◌∙◌, inl, inr}
 use Rattle.std.proofs.lemmas.Bool.{cases_lt}
 use borrow.Author.Tests.{eqb-true, eqb-false}
-use Rattle.exact_algebra.specs.Solver.{number, negated, ◌⊞◌, ◌⊟◌, ◌⊠◌, v0, v1, v2, v3, v4, v5}
-use Rattle.exact_algebra.specs.Rational.{ℚ, ◌+ℚ◌, ◌-ℚ◌, ◌*ℚ◌, neg_ℚ, whole, le_ℚ, ◌≤ℚ◌}
-use Rattle.exact_algebra.proofs.RationalLaws.{ring_ℚ, ≤ℚ_total, ≤ℚ_trans}
-use Rattle.exact_algebra.specs.RationalSums.{sum_ℚ, positive_ℚ, negative_ℚ}
-use Rattle.exact_algebra.proofs.RationalSumLaws.{sum_ℚ-same, sum_ℚ-scale, ≤ℚ_add2}
-use Rattle.exact_algebra.proofs.Inverses.{zero_from_product}
-use Rattle.exact_algebra.specs.Order.{cmp_ℚ}
-use Rattle.exact_algebra.proofs.OrderLaws.{cmp_ℚ-Less, ≤ℚ-minus, ≤ℚ-from_mul, le_from_not}
-use Rattle.exact_algebra.proofs.Signs.{product_not_negative}
-use Rattle.exact_matrices.specs.Terms.{delta}
-use Rattle.exact_matrices.proofs.TermLaws.{if-same, if-other, delta-turned, sum_ℚ-delta}
+use Rattle.rational_laws.specs.Solver.{number, negated, ◌⊞◌, ◌⊟◌, ◌⊠◌, v0, v1, v2, v3, v4, v5}
+use Rattle.rational_laws.specs.Rational.{ℚ, ◌+ℚ◌, ◌-ℚ◌, ◌*ℚ◌, neg_ℚ, whole, le_ℚ, ◌≤ℚ◌}
+use Rattle.rational_laws.proofs.RationalLaws.{ring_ℚ, ≤ℚ_total, ≤ℚ_trans}
+use Rattle.rational_laws.specs.RationalSums.{sum_ℚ, positive_ℚ, negative_ℚ}
+use Rattle.rational_laws.proofs.RationalSumLaws.{sum_ℚ-same, sum_ℚ-scale, ≤ℚ_add2}
+use Rattle.rational_laws.proofs.Inverses.{zero_from_product}
+use Rattle.rational_laws.specs.Order.{cmp_ℚ}
+use Rattle.rational_laws.proofs.OrderLaws.{cmp_ℚ-Less, ≤ℚ-minus, ≤ℚ-from_mul, le_from_not}
+use Rattle.rational_laws.proofs.Signs.{product_not_negative}
+use Rattle.rational_laws.specs.Terms.{delta}
+use Rattle.rational_laws.proofs.TermLaws.{if-same, if-other, delta-turned, sum_ℚ-delta}
 use Rattle.loss_model.specs.Sample.{Sample, up_cost, down_cost, fitted, residual, row_loss, loss, Minimises}
 use Rattle.loss_model.specs.Spill.{abs_ℚ}
 use Rattle.loss_model.specs.FullRank.{HasFullRank}
 use Rattle.loss_model.specs.Segment.{Segments, Covers}
-use Rattle.pivot_rule.specs.Duals.{HasCosts}
-use Rattle.pivot_rule.proofs.Entering.{abs_above, abs_below}
+use Rattle.pivot_model.specs.Duals.{HasCosts}
+use Rattle.pivot_model.proofs.Entering.{abs_above, abs_below}
 use Rattle.lambda_path.specs.Paths.{check_loss, data_loss, absolute_sum, path_loss, IsPathOf}
 use Rattle.lambda_path.specs.Laws.{PathLoss, SumFalls, SumNeverRises, PathHasFullRank, PathHasCosts}
 

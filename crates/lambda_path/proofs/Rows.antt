@@ -6,10 +6,10 @@ use Rattle.std.proofs.lemmas.Bool.{cases_lt}
 use Rattle.std.proofs.lemmas.List.{get_or_default, get_or-map, get_or_append_left, get_or-append_right, length-append, length-map, length-replicate}
 use Rattle.std.proofs.lemmas.List.FromFn.{get_or-map-range_with_len, length-map-range_with_len}
 use borrow.Author.Tests.{eqb-true, eqb-false}
-use Rattle.exact_algebra.specs.Rational.{ℚ, ◌-ℚ◌, ◌*ℚ◌, whole}
-use Rattle.exact_algebra.proofs.Lists.{item_at}
-use Rattle.exact_matrices.specs.Terms.{delta}
-use Rattle.exact_matrices.proofs.TermLaws.{if-same, if-other}
+use Rattle.rational_laws.specs.Rational.{ℚ, ◌-ℚ◌, ◌*ℚ◌, whole}
+use Rattle.rational_laws.proofs.Lists.{item_at}
+use Rattle.rational_laws.specs.Terms.{delta}
+use Rattle.rational_laws.proofs.TermLaws.{if-same, if-other}
 use Rattle.frac_core.specs.Limits.{most_rows}
 use Rattle.frac_core.specs.declared.frac128.Frac128.{Frac128}
 use Rattle.frac_core.specs.Values.{exact, value}

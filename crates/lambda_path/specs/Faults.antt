@@ -1,6 +1,6 @@
 -- Stated. The operations of the costs of a path problem, and why there is none.
 use Rattle.std.specs.Prelude.{ℕ, ◌+◌, ◌-◌, ◌<◌, ◌≤◌, List, [], ◌∷◌, ◌++◌, length, pos, ⊤}
-use Rattle.exact_algebra.specs.Rational.{ℚ, ◌-ℚ◌, whole}
+use Rattle.rational_laws.specs.Rational.{ℚ, ◌-ℚ◌, whole}
 use Rattle.frac_core.specs.declared.frac128.Frac128.{Frac128}
 use Rattle.frac_core.specs.Limits.{most_rows}
 use Rattle.frac_core.specs.Values.{exact}

@@ -1,11 +1,11 @@
 -- Law. What the laws of the path in lambda say; each is the contract of a function.
 use Rattle.std.specs.Prelude.{◌≡◌, ◌≢◌, ◌⊎◌, ℕ, ◌+◌, ◌<◌, pos}
-use Rattle.exact_algebra.specs.Rational.{ℚ, whole, ◌≤ℚ◌}
+use Rattle.rational_laws.specs.Rational.{ℚ, whole, ◌≤ℚ◌}
 use Rattle.loss_model.specs.Sample.{Sample, loss, Minimises}
 use Rattle.loss_model.specs.Strict.{◌<ℚ◌}
 use Rattle.loss_model.specs.FullRank.{HasFullRank}
 use Rattle.loss_model.specs.Segment.{Segments, Covers}
-use Rattle.pivot_rule.specs.Duals.{HasCosts}
+use Rattle.pivot_model.specs.Duals.{HasCosts}
 use Rattle.lambda_path.specs.Paths.{absolute_sum, path_loss, IsPathOf}
 
 -- the loss of a path problem at the parameter lambda is that of the path

@@ -1,6 +1,6 @@
 -- Inner. The rows of a path problem as they are made, with the values of their numbers.
 use Rattle.std.specs.Prelude.{ℕ, List, ◌++◌, map, pos}
-use Rattle.exact_algebra.specs.Rational.{ℚ, ◌-ℚ◌, ◌*ℚ◌, whole}
+use Rattle.rational_laws.specs.Rational.{ℚ, ◌-ℚ◌, ◌*ℚ◌, whole}
 use Rattle.frac_core.specs.declared.frac128.Frac128.{Frac128}
 use Rattle.frac_core.specs.Values.{exact}
 use Rattle.loss_model.specs.declared.problem.Problem.{Problem}

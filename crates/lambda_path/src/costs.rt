@@ -1,6 +1,6 @@
 //! The costs of a data row at one quantile.
 ghost use Rattle.std.specs.Prelude.{◌≡◌, IfErr, IfOk, OnOk, pos};
-ghost use Rattle.exact_algebra.specs.Rational.{◌-ℚ◌, ◌*ℚ◌, whole};
+ghost use Rattle.rational_laws.specs.Rational.{◌-ℚ◌, ◌*ℚ◌, whole};
 ghost use Rattle.frac_core.specs.Values.{exact};
 ghost use Rattle.tv_penalty.specs.Operations.{NoneOverflows, OverflowsFirst};
 ghost use Rattle.lambda_path.specs.Faults.{cost_operations};

@@ -5,7 +5,7 @@
 //! a process over lambda walks along the path; or the first fault by `specs/Faults.antt`. What such a problem loses, that
 //! it has full rank and lawful costs, and that the sum of the absolute coefficients never rises along the path are the
 //! laws of `laws`. The crate stands on `tv_penalty`, whose penalty rows it takes, on `loss_model`, whose problem it gives,
-//! and on `pivot_rule` for what lawful costs are.
+//! and on `pivot_model` for what lawful costs are.
 //! Its cases stand in `cases`.
 //!
 //! `rq_engine` calls it so:

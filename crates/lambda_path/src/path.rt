@@ -1,6 +1,6 @@
 //! The rows of a path problem.
 ghost use Rattle.std.specs.Prelude.{◌≡◌, ◌≤◌, ◌<◌, ◌^◌, ◌++◌, IfErr, IfOk, OnOk, length, map, pos};
-ghost use Rattle.exact_algebra.specs.Rational.{whole};
+ghost use Rattle.rational_laws.specs.Rational.{whole};
 ghost use Rattle.frac_core.specs.Values.{exact, value};
 ghost use Rattle.loss_model.specs.Problem.{IsWellShaped, sample};
 ghost use Rattle.loss_model.specs.Values.{exact_row};

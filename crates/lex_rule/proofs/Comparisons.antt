@@ -5,11 +5,11 @@ use Rattle.std.specs.declared.cmp.Ordering.{Ordering}
 use Rattle.std.specs.declared.cmp.Ordering.TheVariants.{Less, Equal, Greater}
 use Rattle.std.proofs.Common.{arith, refl, sym, ap, ap₂, subst, ◌∙◌, inl, inr}
 use Rattle.std.proofs.lemmas.Bool.{cases_lt}
-use Rattle.exact_algebra.specs.Fraction.{Fraction, rational}
-use Rattle.exact_algebra.specs.Rational.{ℚ, ◌*ℚ◌, neg_ℚ, inverse, whole}
-use Rattle.exact_algebra.specs.Order.{cmp_ℚ}
-use Rattle.exact_algebra.proofs.OrderLaws.{cmp_ℚ-Equal, cmp_ℚ_swap}
-use Rattle.exact_algebra.proofs.Comparisons.{differs}
+use Rattle.rational_laws.specs.Fraction.{Fraction, rational}
+use Rattle.rational_laws.specs.Rational.{ℚ, ◌*ℚ◌, neg_ℚ, inverse, whole}
+use Rattle.rational_laws.specs.Order.{cmp_ℚ}
+use Rattle.rational_laws.proofs.OrderLaws.{cmp_ℚ-Equal, cmp_ℚ_swap}
+use Rattle.rational_laws.proofs.Comparisons.{differs}
 use Rattle.loss_model.specs.declared.vertex.Side.{Side}
 use Rattle.loss_model.specs.declared.vertex.Side.TheVariants.{Up, Down}
 use Rattle.loss_model.specs.declared.spill.Spill.{Spill}

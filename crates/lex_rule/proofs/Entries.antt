@@ -3,9 +3,9 @@ use Rattle.std.specs.Prelude.{◌≡◌, ◌⊎◌, ℕ, suc, ◌<◌, ◌≤◌
 use Rattle.std.specs.Ordering.{is_ne}
 use Rattle.std.specs.declared.cmp.Ordering.{Ordering}
 use Rattle.std.proofs.Common.{arith, refl, ap, subst, ◌∙◌, inl, inr}
-use Rattle.exact_algebra.specs.Fraction.{Fraction, rational}
-use Rattle.exact_algebra.specs.Rational.{neg_ℚ}
-use Rattle.exact_algebra.specs.Order.{cmp_ℚ}
+use Rattle.rational_laws.specs.Fraction.{Fraction, rational}
+use Rattle.rational_laws.specs.Rational.{neg_ℚ}
+use Rattle.rational_laws.specs.Order.{cmp_ℚ}
 use Rattle.loss_model.specs.declared.spill.Spill.{Spill}
 use Rattle.basis_model.specs.Lexicographic.{lex_cmp}
 use Rattle.basis_model.specs.Perturbed.{Nonbasic, perturbed, ratio_on}
@@ -15,7 +15,7 @@ use Rattle.lex_rule.specs.declared.quotient.Divisor.{Divisor}
 use Rattle.lex_rule.specs.Divisor.{entry_over, IsDivisorSpill}
 use Rattle.lex_rule.specs.Compared.{of_ratio, IsRatioAt, IsDivisorOf}
 use Rattle.lex_rule.specs.Scan.{IsNextAt}
-use Rattle.exact_algebra.proofs.Comparisons.{differs}
+use Rattle.rational_laws.proofs.Comparisons.{differs}
 use Rattle.loss_model.proofs.Products.{value_read}
 use Rattle.lex_rule.proofs.Comparisons.{equal_from, entry_is, entry_spill, held_entry, AgreeBefore, agree_between, agree_more, decided, same_entry}
 

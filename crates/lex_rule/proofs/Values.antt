@@ -1,9 +1,9 @@
 -- Values that were read.
 use Rattle.std.specs.Prelude.{◌≡◌, cond, pos, ◌≤ℤ◌}
 use Rattle.std.proofs.Common.{sym, ap}
-use Rattle.exact_algebra.specs.Rational.{ℚ, neg_ℚ}
-use Rattle.exact_algebra.specs.Order.{sign_ℚ}
-use Rattle.exact_algebra.proofs.OrderLaws.{sign_ℚ-not_below}
+use Rattle.rational_laws.specs.Rational.{ℚ, neg_ℚ}
+use Rattle.rational_laws.specs.Order.{sign_ℚ}
+use Rattle.rational_laws.proofs.OrderLaws.{sign_ℚ-not_below}
 use Rattle.loss_model.specs.Spill.{abs_ℚ}
 
 -- a value that isn't negative is its own absolute value

@@ -1,7 +1,7 @@
 -- Inner. The rows whose perturbed ratios are compared.
 use Rattle.std.specs.Prelude.{◌≡◌, ◌≢◌, ℕ, ◌<◌, List, length, slice_index, pos}
-use Rattle.exact_algebra.specs.Fraction.{Fraction, rational}
-use Rattle.exact_algebra.specs.Rational.{whole}
+use Rattle.rational_laws.specs.Fraction.{Fraction, rational}
+use Rattle.rational_laws.specs.Rational.{whole}
 use Rattle.loss_model.specs.Spill.{abs_ℚ}
 use Rattle.basis_model.specs.Perturbed.{Nonbasic, nonbasic, IsOutside}
 use Rattle.lex_rule.specs.declared.less.Ratio.{Ratio}

@@ -1,7 +1,7 @@
 -- Inner. An entry of a perturbed ratio by what all its entries share.
 use Rattle.std.specs.Prelude.{ℕ}
-use Rattle.exact_algebra.specs.Fraction.{Fraction, rational}
-use Rattle.exact_algebra.specs.Rational.{ℚ, ◌*ℚ◌, inverse}
+use Rattle.rational_laws.specs.Fraction.{Fraction, rational}
+use Rattle.rational_laws.specs.Rational.{ℚ, ◌*ℚ◌, inverse}
 use Rattle.loss_model.specs.declared.spill.Spill.{Spill}
 use Rattle.loss_model.specs.Spill.{IsOperation}
 use Rattle.basis_model.specs.Perturbed.{turned}

@@ -1,6 +1,6 @@
 -- Inner. The least row of a basis in a range that has a coordinate.
 use Rattle.std.specs.Prelude.{◌≡◌, ℕ, ◌<◌, ◌≤◌, Option, Some, None, pos}
-use Rattle.exact_algebra.specs.Rational.{ℚ, whole}
+use Rattle.rational_laws.specs.Rational.{ℚ, whole}
 
 -- the coordinates u and v at position j are both 0
 pub record AreZeroAt (u v : ℕ → ℚ) (j : ℕ) : Type 0 where

@@ -1,8 +1,8 @@
 //! The entries of perturbed ratios.
 ghost use Rattle.std.specs.Prelude.{◌≡◌, ◌≢◌, ◌⊎◌, IfOk, IfErr, pos};
-ghost use Rattle.exact_algebra.specs.Fraction.{rational};
-ghost use Rattle.exact_algebra.specs.Rational.{◌*ℚ◌, inverse, whole};
-ghost use Rattle.exact_algebra.specs.Order.{cmp_ℚ};
+ghost use Rattle.rational_laws.specs.Fraction.{rational};
+ghost use Rattle.rational_laws.specs.Rational.{◌*ℚ◌, inverse, whole};
+ghost use Rattle.rational_laws.specs.Order.{cmp_ℚ};
 ghost use Rattle.loss_model.specs.Spill.{abs_ℚ};
 ghost use Rattle.basis_model.specs.Perturbed.{turned};
 ghost use Rattle.lex_rule.specs.Divisor.{entry_over, IsDivisorSpill};

@@ -1,8 +1,8 @@
 //! The sign of a perturbed residual.
 ghost use Rattle.std.specs.Prelude.{◌≡◌, ℕ, ◌<◌, length, slice_index, pos};
-ghost use Rattle.exact_algebra.specs.Fraction.{rational};
-ghost use Rattle.exact_algebra.specs.Rational.{whole};
-ghost use Rattle.exact_algebra.specs.Order.{cmp_ℚ};
+ghost use Rattle.rational_laws.specs.Fraction.{rational};
+ghost use Rattle.rational_laws.specs.Rational.{whole};
+ghost use Rattle.rational_laws.specs.Order.{cmp_ℚ};
 ghost use Rattle.basis_model.specs.Perturbed.{IsOutside, nonbasic, perturbed_side, side_of};
 
 use crate::scan::next_position;

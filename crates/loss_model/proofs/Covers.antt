@@ -1,8 +1,8 @@
 -- A cover has no gap.
 use Rattle.std.specs.Prelude.{◌≡◌, ℕ, zero, suc, ◌+◌, ◌-◌, ◌<◌, Bool, true, false}
 use Rattle.std.proofs.Common.{arith, refl, sym, ap, subst, ◌∙◌}
-use Rattle.exact_algebra.specs.Rational.{ℚ, ◌≤ℚ◌, le_ℚ}
-use Rattle.exact_algebra.proofs.RationalLaws.{≤ℚ_total}
+use Rattle.rational_laws.specs.Rational.{ℚ, ◌≤ℚ◌, le_ℚ}
+use Rattle.rational_laws.proofs.RationalLaws.{≤ℚ_total}
 use Rattle.loss_model.specs.Segment.{Segments, Covers}
 use Rattle.loss_model.specs.Laws.{CoversEveryValue}
 

@@ -2,13 +2,13 @@
 use Rattle.std.specs.Prelude.{◌≡◌, ℕ, zero, suc, ◌+◌, ◌<◌, ◌≤◌, [], ◌∷◌, ℤ, pos, negsuc, ◌*ℤ◌, ◌-ℤ◌, ◌≤ℤ◌, unsigned_abs}
 use Rattle.std.proofs.Common.{arith, refl, sym, ap, subst, ◌∙◌}
 use Rattle.std.proofs.lemmas.Int.{ints}
-use Rattle.exact_algebra.specs.Solver.{number, negated, ◌⊞◌, ◌⊟◌, ◌⊠◌, v0, v1, v2, v3, v4, v5, v6}
-use Rattle.exact_algebra.specs.Rational.{ℚ, ◌+ℚ◌, ◌-ℚ◌, ◌*ℚ◌, inverse, whole, ◌≤ℚ◌}
-use Rattle.exact_algebra.proofs.RationalLaws.{whole-add, whole-mul, ring_ℚ, ring_by_ℚ}
-use Rattle.exact_algebra.specs.Fraction.{Fraction, rational}
-use Rattle.exact_algebra.proofs.WholeNumbers.{le_from_whole}
-use Rattle.exact_algebra.proofs.OrderLaws.{≤ℚ-minus}
-use Rattle.exact_algebra.proofs.Signs.{product_not_negative, whole_not_negative}
+use Rattle.rational_laws.specs.Solver.{number, negated, ◌⊞◌, ◌⊟◌, ◌⊠◌, v0, v1, v2, v3, v4, v5, v6}
+use Rattle.rational_laws.specs.Rational.{ℚ, ◌+ℚ◌, ◌-ℚ◌, ◌*ℚ◌, inverse, whole, ◌≤ℚ◌}
+use Rattle.rational_laws.proofs.RationalLaws.{whole-add, whole-mul, ring_ℚ, ring_by_ℚ}
+use Rattle.rational_laws.specs.Fraction.{Fraction, rational}
+use Rattle.rational_laws.proofs.WholeNumbers.{le_from_whole}
+use Rattle.rational_laws.proofs.OrderLaws.{≤ℚ-minus}
+use Rattle.rational_laws.proofs.Signs.{product_not_negative, whole_not_negative}
 use Rattle.loss_model.specs.Dual.{mix}
 use Rattle.loss_model.specs.Laws.{IntervalIsMixes}
 use Rattle.loss_model.proofs.Quotients.{inverse_of, whole-quotient, whole-sub, cancel_whole}

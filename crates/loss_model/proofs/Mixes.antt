@@ -1,13 +1,13 @@
 -- Dual values between two quantiles.
 use Rattle.std.specs.Prelude.{◌≡◌, ℕ, ◌+◌, ◌<◌, Bool, true, false, [], ◌∷◌, pos}
 use Rattle.std.proofs.Common.{arith, refl, sym, ap, subst, ◌∙◌}
-use Rattle.exact_algebra.specs.Solver.{var, number, negated, ◌⊞◌, ◌⊟◌, ◌⊠◌, v0, v1, v2, v3, v4, v5, v6, v7, v8}
-use Rattle.exact_algebra.specs.Rational.{ℚ, ◌+ℚ◌, ◌-ℚ◌, ◌*ℚ◌, neg_ℚ, inverse, whole, ◌≤ℚ◌, le_ℚ}
-use Rattle.exact_algebra.proofs.RationalLaws.{whole-add, ring_ℚ, ring_by_ℚ, *ℚ-inverse, ≤ℚ_mul, ≤ℚ_trans, ≤ℚ_antisym, ≤ℚ_total, ≤ℚ_refl}
-use Rattle.exact_algebra.specs.RationalSums.{sum_ℚ, positive_ℚ, negative_ℚ}
-use Rattle.exact_algebra.proofs.RationalSumLaws.{≤ℚ_add2, sum_ℚ-same, sum_ℚ-mix}
-use Rattle.exact_algebra.proofs.OrderLaws.{≤ℚ-minus, inverse_not_negative}
-use Rattle.exact_algebra.proofs.Signs.{product_not_negative, whole_not_negative}
+use Rattle.rational_laws.specs.Solver.{var, number, negated, ◌⊞◌, ◌⊟◌, ◌⊠◌, v0, v1, v2, v3, v4, v5, v6, v7, v8}
+use Rattle.rational_laws.specs.Rational.{ℚ, ◌+ℚ◌, ◌-ℚ◌, ◌*ℚ◌, neg_ℚ, inverse, whole, ◌≤ℚ◌, le_ℚ}
+use Rattle.rational_laws.proofs.RationalLaws.{whole-add, ring_ℚ, ring_by_ℚ, *ℚ-inverse, ≤ℚ_mul, ≤ℚ_trans, ≤ℚ_antisym, ≤ℚ_total, ≤ℚ_refl}
+use Rattle.rational_laws.specs.RationalSums.{sum_ℚ, positive_ℚ, negative_ℚ}
+use Rattle.rational_laws.proofs.RationalSumLaws.{≤ℚ_add2, sum_ℚ-same, sum_ℚ-mix}
+use Rattle.rational_laws.proofs.OrderLaws.{≤ℚ-minus, inverse_not_negative}
+use Rattle.rational_laws.proofs.Signs.{product_not_negative, whole_not_negative}
 use Rattle.loss_model.specs.Sample.{Sample, up_cost, down_cost, residual, row_loss, loss, Minimises}
 use Rattle.loss_model.specs.Dual.{IsFeasible, dual_objective, IsDual, mix}
 use Rattle.loss_model.specs.Laws.{MixIsDual, MinimisesBetween}

@@ -1,13 +1,13 @@
 -- The loss of a row is the cost of its side times the size of its residual.
 use Rattle.std.specs.Prelude.{◌≡◌, ℕ, ◌+◌, Bool, true, false, cond, [], ◌∷◌, ℤ, pos, ◌≤ℤ◌}
 use Rattle.std.proofs.Common.{refl, sym, ap, subst, ◌∙◌}
-use Rattle.exact_algebra.specs.Solver.{number, negated, ◌⊞◌, ◌⊠◌, v0, v1, v2}
-use Rattle.exact_algebra.specs.Rational.{ℚ, ◌+ℚ◌, ◌*ℚ◌, neg_ℚ, whole, le_ℚ, ◌≤ℚ◌}
-use Rattle.exact_algebra.proofs.RationalLaws.{ring_ℚ, zero-+ℚ}
-use Rattle.exact_algebra.specs.RationalSums.{sum_ℚ, positive_ℚ, negative_ℚ}
-use Rattle.exact_algebra.proofs.RationalSumLaws.{sum_ℚ-same}
-use Rattle.exact_algebra.specs.Order.{sign_ℚ}
-use Rattle.exact_algebra.proofs.OrderLaws.{sign_ℚ-not_below}
+use Rattle.rational_laws.specs.Solver.{number, negated, ◌⊞◌, ◌⊠◌, v0, v1, v2}
+use Rattle.rational_laws.specs.Rational.{ℚ, ◌+ℚ◌, ◌*ℚ◌, neg_ℚ, whole, le_ℚ, ◌≤ℚ◌}
+use Rattle.rational_laws.proofs.RationalLaws.{ring_ℚ, zero-+ℚ}
+use Rattle.rational_laws.specs.RationalSums.{sum_ℚ, positive_ℚ, negative_ℚ}
+use Rattle.rational_laws.proofs.RationalSumLaws.{sum_ℚ-same}
+use Rattle.rational_laws.specs.Order.{sign_ℚ}
+use Rattle.rational_laws.proofs.OrderLaws.{sign_ℚ-not_below}
 use Rattle.loss_model.specs.Sample.{Sample, up_cost, down_cost, residual, row_loss, loss}
 use Rattle.loss_model.specs.Spill.{partial_sum, total, loss_products, side_cost, abs_ℚ}
 use Rattle.loss_model.proofs.Products.{partial_sum-zero, partial_sum-next}

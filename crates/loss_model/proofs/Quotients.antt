@@ -2,13 +2,13 @@
 use Rattle.std.specs.Prelude.{◌≡◌, ℕ, ◌≤◌, ℤ, pos, ◌-ℤ◌, neg_ℤ}
 use Rattle.std.proofs.Common.{arith, sym, ap, ◌∙◌}
 use Rattle.std.proofs.lemmas.Int.{ints}
-use Rattle.exact_algebra.specs.Solver.{number}
-use Rattle.exact_algebra.specs.Rational.{ℚ, ◌+ℚ◌, ◌-ℚ◌, ◌*ℚ◌, whole, inverse, quotient, ◌≤ℚ◌}
-use Rattle.exact_algebra.proofs.RationalLaws.{whole-add, *ℚ-inverse}
-use Rattle.exact_algebra.proofs.WholeNumbers.{same_from_whole, le_from_whole, whole-neg}
-use Rattle.exact_algebra.proofs.Inverses.{*ℚ_cancel}
-use Rattle.exact_algebra.proofs.OrderLaws.{≤ℚ-from_mul}
-use Rattle.exact_algebra.proofs.Quotients.{denominator-times}
+use Rattle.rational_laws.specs.Solver.{number}
+use Rattle.rational_laws.specs.Rational.{ℚ, ◌+ℚ◌, ◌-ℚ◌, ◌*ℚ◌, whole, inverse, quotient, ◌≤ℚ◌}
+use Rattle.rational_laws.proofs.RationalLaws.{whole-add, *ℚ-inverse}
+use Rattle.rational_laws.proofs.WholeNumbers.{same_from_whole, le_from_whole, whole-neg}
+use Rattle.rational_laws.proofs.Inverses.{*ℚ_cancel}
+use Rattle.rational_laws.proofs.OrderLaws.{≤ℚ-from_mul}
+use Rattle.rational_laws.proofs.Quotients.{denominator-times}
 
 whole_nonzero : (n : ℕ) → 1 ≤ n → whole (pos n) ≡ whole (pos 0) → ⊥
 whole_nonzero n h e = absurd (omega (arith, ints, same_from_whole (pos n) (pos 0) e))

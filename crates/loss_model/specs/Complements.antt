@@ -2,7 +2,7 @@
 -- with no word on what the dual values weigh. The numbers are the residuals of coefficients, or how these
 -- change along a direction.
 use Rattle.std.specs.Prelude.{◌≡◌, ℕ, ◌<◌, pos}
-use Rattle.exact_algebra.specs.Rational.{ℚ, neg_ℚ, whole}
+use Rattle.rational_laws.specs.Rational.{ℚ, neg_ℚ, whole}
 use Rattle.loss_model.specs.Strict.{◌<ℚ◌}
 use Rattle.loss_model.specs.Sample.{Sample, up_cost, down_cost, fitted}
 

@@ -1,6 +1,6 @@
 -- Stated. Full rank: the columns of a problem are independent.
 use Rattle.std.specs.Prelude.{◌≡◌, ◌≢◌, ℕ, ◌<◌, pos}
-use Rattle.exact_algebra.specs.Rational.{ℚ, whole}
+use Rattle.rational_laws.specs.Rational.{ℚ, whole}
 use Rattle.loss_model.specs.Sample.{Sample, fitted}
 
 -- no factors of the columns but zeros give 0 in every row

@@ -15,6 +15,6 @@ pub mod Widths
 pub mod Unfit
 pub mod Spill
 pub mod Sign
-pub use Rattle.exact_matrices.specs.Matrices
-pub use Rattle.exact_matrices.specs.Selections
+pub use Rattle.rational_laws.specs.Matrices
+pub use Rattle.rational_laws.specs.Selections
 pub use Rattle.frac_core.specs.declared.exact.OpKind

@@ -1,8 +1,8 @@
 -- Stated. A problem of the program as a sample. A type of fractions is seen by what its values stand for.
 use Rattle.std.specs.Prelude.{◌≡◌, ℕ, ◌≤◌, List, length, slice_get, All, pos}
 use Rattle.std.specs.Option.{option_map_or}
-use Rattle.exact_algebra.specs.Rational.{ℚ, whole}
-use Rattle.exact_algebra.specs.Fraction.{Fraction, rational}
+use Rattle.rational_laws.specs.Rational.{ℚ, whole}
+use Rattle.rational_laws.specs.Fraction.{Fraction, rational}
 use Rattle.frac_core.specs.Limits.{most_rows, most_columns}
 use Rattle.loss_model.specs.declared.problem.Row.{Row}
 use Rattle.loss_model.specs.declared.problem.Problem.{Problem}

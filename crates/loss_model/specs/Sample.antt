@@ -1,7 +1,7 @@
 -- Stated. A linear quantile regression in fractions, and its check loss (Koenker 2005, chapter 1).
 use Rattle.std.specs.Prelude.{ℕ}
-use Rattle.exact_algebra.specs.Rational.{ℚ, ◌+ℚ◌, ◌-ℚ◌, ◌*ℚ◌, ◌≤ℚ◌}
-use Rattle.exact_algebra.specs.RationalSums.{sum_ℚ, positive_ℚ, negative_ℚ}
+use Rattle.rational_laws.specs.Rational.{ℚ, ◌+ℚ◌, ◌-ℚ◌, ◌*ℚ◌, ◌≤ℚ◌}
+use Rattle.rational_laws.specs.RationalSums.{sum_ℚ, positive_ℚ, negative_ℚ}
 
 -- row i has the entries x i k and the response y i; at theta a unit of its residual costs
 -- up0 i + up1 i * theta where it is positive, and down0 i + down1 i * theta where it is negative

@@ -2,9 +2,9 @@
 use Rattle.std.specs.Prelude.{◌≡◌, ℕ, ◌+◌, ◌-◌, ◌<◌, ◌⊎◌, List, length, slice_get, pos}
 use Rattle.std.specs.Option.{option_map_or}
 use Rattle.std.specs.declared.cmp.Ordering.TheVariants.{Less}
-use Rattle.exact_algebra.specs.Rational.{ℚ, whole}
-use Rattle.exact_algebra.specs.Fraction.{Fraction, rational}
-use Rattle.exact_algebra.specs.Order.{cmp_ℚ}
+use Rattle.rational_laws.specs.Rational.{ℚ, whole}
+use Rattle.rational_laws.specs.Fraction.{Fraction, rational}
+use Rattle.rational_laws.specs.Order.{cmp_ℚ}
 use Rattle.loss_model.specs.declared.problem.Problem.{Problem}
 use Rattle.loss_model.specs.declared.process.Segment.{Segment}
 use Rattle.loss_model.specs.declared.vertex.Vertex.{Vertex}

@@ -1,7 +1,7 @@
 -- Inner. Products of the items of two lists, the left ones taken as they are or negated.
 use Rattle.std.specs.Prelude.{List, length}
-use Rattle.exact_algebra.specs.Fraction.{Fraction, rational}
-use Rattle.exact_algebra.specs.Rational.{ℚ, neg_ℚ}
+use Rattle.rational_laws.specs.Fraction.{Fraction, rational}
+use Rattle.rational_laws.specs.Rational.{ℚ, neg_ℚ}
 use Rattle.loss_model.specs.Problem.{value_at}
 use Rattle.loss_model.specs.Spill.{Products}
 use Rattle.loss_model.specs.declared.sites.Sign.{Sign}

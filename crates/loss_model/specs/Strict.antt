@@ -1,5 +1,5 @@
 -- Stated. The strict order of fractions.
-use Rattle.exact_algebra.specs.Rational.{ℚ, ◌≤ℚ◌}
+use Rattle.rational_laws.specs.Rational.{ℚ, ◌≤ℚ◌}
 
 -- x is less than y
 infix 50 ◌<ℚ◌

@@ -1,6 +1,6 @@
 -- Stated. Rows of a problem by their values.
 use Rattle.std.specs.Prelude.{map}
-use Rattle.exact_algebra.specs.Rational.{ℚ}
+use Rattle.rational_laws.specs.Rational.{ℚ}
 use Rattle.frac_core.specs.Values.{exact}
 use Rattle.frac_core.specs.declared.frac128.Frac128.{Frac128}
 use Rattle.loss_model.specs.declared.problem.Row.{Row}

@@ -3,7 +3,7 @@
 //!
 //! The one contract for the layers above: `loss_at` is the plain sum of the check loss, and dual
 //! values of equal cost show that coefficients minimise it. The crate stands on exact fractions
-//! (`frac_core`) and on the algebra below them (`exact_algebra`).
+//! (`frac_core`) and on the algebra below them (`rational_laws`).
 //! Its cases stand in `cases`, and tests of widths in `edge_tests`.
 //!
 //! `basic_solution` takes residuals and sums so:

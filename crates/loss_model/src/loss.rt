@@ -1,8 +1,8 @@
 //! Residuals, costs and the check loss.
 
 ghost use Rattle.std.specs.Prelude.{◌≡◌, ◌<◌, length, IfOk, IfErr};
-ghost use Rattle.exact_algebra.specs.Fraction.{rational};
-ghost use Rattle.exact_algebra.specs.Rational.{◌+ℚ◌, ◌*ℚ◌};
+ghost use Rattle.rational_laws.specs.Fraction.{rational};
+ghost use Rattle.rational_laws.specs.Rational.{◌+ℚ◌, ◌*ℚ◌};
 ghost use Rattle.loss_model.specs.Sample.{up_cost, down_cost, residual, loss};
 ghost use Rattle.loss_model.specs.Problem.{value_at, sample, IsWellShaped};
 ghost use Rattle.loss_model.specs.Spill.{side_cost, abs_ℚ, IsResidualSpill, IsUpCostSpill, IsDownCostSpill, IsRowSpill, IsLossSpill};

@@ -1,8 +1,8 @@
 //! Operations at a site: each gives the exact value, or the spill that names the operation.
 
 ghost use Rattle.std.specs.Prelude.{◌≡◌, ◌≢◌, ◌↔◌, ◌+◌, ◌<◌, ◌^◌, length, pos, IfOk, IfErr, IsErr};
-ghost use Rattle.exact_algebra.specs.Fraction.{rational};
-ghost use Rattle.exact_algebra.specs.Rational.{◌+ℚ◌, ◌-ℚ◌, ◌*ℚ◌, inverse, whole};
+ghost use Rattle.rational_laws.specs.Fraction.{rational};
+ghost use Rattle.rational_laws.specs.Rational.{◌+ℚ◌, ◌-ℚ◌, ◌*ℚ◌, inverse, whole};
 ghost use Rattle.frac_core.specs.Overflow.{IsWithin, Overflows};
 ghost use Rattle.loss_model.specs.Problem.{value_at};
 ghost use Rattle.loss_model.specs.Spill.{Products, total, IsTermSpill, IsSpillOf};

@@ -1,10 +1,10 @@
 -- Pairs of tested columns, and sums that are made by one term more at a time.
 use Rattle.std.specs.Prelude.{◌≡◌, ℕ, ◌+◌, ◌<◌, ◌≤◌, List, [], ◌∷◌, ◌++◌, length, get_or}
 use Rattle.std.proofs.Common.{arith, sym, ap, ap₂, ◌∙◌}
-use Rattle.exact_algebra.specs.Fraction.{Fraction, rational}
-use Rattle.exact_algebra.specs.Rational.{ℚ, ◌+ℚ◌, ◌*ℚ◌}
-use Rattle.exact_algebra.specs.RationalSums.{sum_ℚ}
-use Rattle.exact_algebra.proofs.RationalSumLaws.{sum_ℚ-next, sum_ℚ-same}
+use Rattle.rational_laws.specs.Fraction.{Fraction, rational}
+use Rattle.rational_laws.specs.Rational.{ℚ, ◌+ℚ◌, ◌*ℚ◌}
+use Rattle.rational_laws.specs.RationalSums.{sum_ℚ}
+use Rattle.rational_laws.proofs.RationalSumLaws.{sum_ℚ-next, sum_ℚ-same}
 use Rattle.loss_model.specs.Problem.{value_at}
 use Rattle.loss_model.proofs.Products.{value_at-item}
 use Rattle.ratio.specs.Sums.{total}

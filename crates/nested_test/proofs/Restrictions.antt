@@ -5,7 +5,7 @@ use Rattle.std.proofs.Common.{arith, refl, sym, ap, subst, ◌∙◌, add-one}
 use Rattle.std.proofs.lemmas.List.{length-map}
 use Rattle.std.proofs.lemmas.List.Elements.{All-head, All-tail, All-get_or, All-map}
 use borrow.Author.Tests.{eqb-true, eqb-false}
-use Rattle.exact_matrices.specs.Selections.{AreDistinct}
+use Rattle.rational_laws.specs.Selections.{AreDistinct}
 use Rattle.frac_core.specs.Limits.{most_rows}
 use Rattle.loss_model.specs.declared.problem.Problem.{Problem}
 use Rattle.loss_model.specs.declared.problem.Row.{Row}

@@ -2,23 +2,23 @@
 use Rattle.std.specs.Prelude.{◌≡◌, ℕ, ◌<◌, Bool, true, false, if◌then◌else◌, [], ◌∷◌, pos, negsuc, ◌≤ℤ◌}
 use Rattle.std.proofs.Common.{arith, refl, sym, ap, ap₂, subst, ◌∙◌}
 use Rattle.std.proofs.lemmas.Int.{ints}
-use Rattle.exact_algebra.specs.Solver.{number, negated, ◌⊞◌, ◌⊟◌, ◌⊠◌, v0, v1, v2}
-use Rattle.exact_algebra.specs.Rational.{ℚ, ◌+ℚ◌, ◌*ℚ◌, neg_ℚ, whole, ◌≤ℚ◌}
-use Rattle.exact_algebra.proofs.RationalLaws.{ring_ℚ}
-use Rattle.exact_algebra.specs.RationalSums.{sum_ℚ}
-use Rattle.exact_algebra.proofs.RationalSumLaws.{sum_ℚ-same, sum_ℚ-scale, sum_ℚ-swap}
-use Rattle.exact_algebra.proofs.OrderLaws.{sign_ℚ-not_below, sign_ℚ-whole}
-use Rattle.exact_algebra.proofs.Signs.{product_not_negative}
-use Rattle.exact_matrices.specs.Terms.{delta}
-use Rattle.exact_matrices.proofs.TermLaws.{sum_ℚ-delta, delta-turned}
-use Rattle.exact_matrices.specs.Matrices.{AreInverse}
-use Rattle.exact_matrices.specs.Selections.{is_among, AreDistinct, among}
-use Rattle.exact_matrices.proofs.SelectionLaws.{sum_ℚ-among, sum_ℚ-split}
+use Rattle.rational_laws.specs.Solver.{number, negated, ◌⊞◌, ◌⊟◌, ◌⊠◌, v0, v1, v2}
+use Rattle.rational_laws.specs.Rational.{ℚ, ◌+ℚ◌, ◌*ℚ◌, neg_ℚ, whole, ◌≤ℚ◌}
+use Rattle.rational_laws.proofs.RationalLaws.{ring_ℚ}
+use Rattle.rational_laws.specs.RationalSums.{sum_ℚ}
+use Rattle.rational_laws.proofs.RationalSumLaws.{sum_ℚ-same, sum_ℚ-scale, sum_ℚ-swap}
+use Rattle.rational_laws.proofs.OrderLaws.{sign_ℚ-not_below, sign_ℚ-whole}
+use Rattle.rational_laws.proofs.Signs.{product_not_negative}
+use Rattle.rational_laws.specs.Terms.{delta}
+use Rattle.rational_laws.proofs.TermLaws.{sum_ℚ-delta, delta-turned}
+use Rattle.rational_laws.specs.Matrices.{AreInverse}
+use Rattle.rational_laws.specs.Selections.{is_among, AreDistinct, among}
+use Rattle.rational_laws.proofs.SelectionLaws.{sum_ℚ-among, sum_ℚ-split}
 use Rattle.loss_model.specs.Sample.{Sample}
-use Rattle.pivot_rule.proofs.Among.{among_at, among_place}
-use Rattle.rank_law.specs.Gram.{gram}
-use Rattle.rank_law.proofs.Lengths.{squares_not_negative}
-use Rattle.rank_law.proofs.Grams.{weighted, gram_row, gram_square}
+use Rattle.pivot_model.proofs.Among.{among_at, among_place}
+use Rattle.rank_model.specs.Gram.{gram}
+use Rattle.rank_model.proofs.Lengths.{squares_not_negative}
+use Rattle.rank_model.proofs.Grams.{weighted, gram_row, gram_square}
 use Rattle.gram_matrix.specs.Grams.{scaled}
 use Rattle.nested_test.specs.Nested.{rest, AreNestedFactors, nested_statistic, IsNestedStatistic}
 use Rattle.nested_test.specs.Pairs.{pairs}

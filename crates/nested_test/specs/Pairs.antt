@@ -1,7 +1,7 @@
 -- Inner. Sums over pairs of tested columns.
 use Rattle.std.specs.Prelude.{◌≡◌, ℕ, ◌<◌, All, length, slice_index}
-use Rattle.exact_algebra.specs.Rational.{ℚ, ◌*ℚ◌}
-use Rattle.exact_algebra.specs.RationalSums.{sum_ℚ}
+use Rattle.rational_laws.specs.Rational.{ℚ, ◌*ℚ◌}
+use Rattle.rational_laws.specs.RationalSums.{sum_ℚ}
 use Rattle.loss_model.specs.Problem.{value_at}
 use Rattle.basis_inverse.specs.Square.{entries}
 use Rattle.nested_test.specs.declared.statistic.Pairs.{Pairs}

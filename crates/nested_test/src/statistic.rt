@@ -1,7 +1,7 @@
 //! The statistic of nested models.
 ghost use Rattle.std.specs.Prelude.{◌≡◌, ℕ, ◌<◌, length, slice_index, IfOk, pos};
-ghost use Rattle.exact_algebra.specs.Fraction.{rational};
-ghost use Rattle.exact_algebra.specs.Rational.{◌*ℚ◌, whole};
+ghost use Rattle.rational_laws.specs.Fraction.{rational};
+ghost use Rattle.rational_laws.specs.Rational.{◌*ℚ◌, whole};
 ghost use Rattle.loss_model.specs.Dual.{IsDataRow};
 ghost use Rattle.loss_model.specs.FullRank.{HasFullRank};
 ghost use Rattle.loss_model.specs.Problem.{value_at, sample, IsWellShaped};

@@ -1,7 +1,7 @@
 -- Law. What the laws of steps and of rearrangements say; each is the contract of a function.
 use Rattle.std.specs.Prelude.{◌≡◌, ℕ, List, map}
-use Rattle.exact_algebra.specs.Fraction.{Fraction}
-use Rattle.exact_algebra.specs.Rational.{ℚ}
+use Rattle.rational_laws.specs.Fraction.{Fraction}
+use Rattle.rational_laws.specs.Rational.{ℚ}
 use Rattle.loss_model.specs.declared.problem.Problem.{Problem}
 use Rattle.loss_model.specs.declared.process.Segment.{Segment}
 use Rattle.loss_model.specs.Segment.{Covers, segments_of}

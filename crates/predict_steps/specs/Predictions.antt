@@ -1,8 +1,8 @@
 -- Stated. Predictions by the coefficients of a process, as steps over its segments.
 use Rattle.std.specs.Prelude.{◌≡◌, List, length, map}
-use Rattle.exact_algebra.specs.Fraction.{Fraction, rational}
-use Rattle.exact_algebra.specs.Rational.{ℚ, ◌+ℚ◌, ◌*ℚ◌}
-use Rattle.exact_algebra.specs.RationalSums.{sum_ℚ}
+use Rattle.rational_laws.specs.Fraction.{Fraction, rational}
+use Rattle.rational_laws.specs.Rational.{ℚ, ◌+ℚ◌, ◌*ℚ◌}
+use Rattle.rational_laws.specs.RationalSums.{sum_ℚ}
 use Rattle.loss_model.specs.declared.process.Segment.{Segment}
 use Rattle.loss_model.specs.Problem.{value_at}
 use Rattle.predict_steps.specs.declared.step.RearrangedStep.{RearrangedStep}

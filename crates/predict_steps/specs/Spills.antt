@@ -1,8 +1,8 @@
 -- Stated. The operations of predictions.
 use Rattle.std.specs.Prelude.{◌≡◌, ◌⊎◌, ℕ, ◌+◌, List, Some, length, slice_get, pos}
-use Rattle.exact_algebra.specs.Fraction.{Fraction}
-use Rattle.exact_algebra.specs.Rational.{ℚ, ◌+ℚ◌, whole}
-use Rattle.exact_algebra.specs.RationalSums.{sum_ℚ}
+use Rattle.rational_laws.specs.Fraction.{Fraction}
+use Rattle.rational_laws.specs.Rational.{ℚ, ◌+ℚ◌, whole}
+use Rattle.rational_laws.specs.RationalSums.{sum_ℚ}
 use Rattle.frac_core.specs.declared.exact.OpKind.TheVariants.{Add}
 use Rattle.loss_model.specs.declared.process.Segment.{Segment}
 use Rattle.loss_model.specs.declared.spill.Quantity.TheVariants.{Prediction}

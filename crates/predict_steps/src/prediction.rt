@@ -1,8 +1,8 @@
 //! The steps of a prediction.
 ghost use Rattle.std.specs.Prelude.{◌≡◌, ◌+◌, ◌<◌, ◌≤◌, ◌^◌, All, length, IfOk, IfErr};
-ghost use Rattle.exact_algebra.specs.Fraction.{rational};
-ghost use Rattle.exact_algebra.specs.Rational.{◌+ℚ◌};
-ghost use Rattle.exact_algebra.specs.RationalSums.{sum_ℚ};
+ghost use Rattle.rational_laws.specs.Fraction.{rational};
+ghost use Rattle.rational_laws.specs.Rational.{◌+ℚ◌};
+ghost use Rattle.rational_laws.specs.RationalSums.{sum_ℚ};
 ghost use Rattle.loss_model.specs.Problem.{value_at};
 ghost use Rattle.loss_model.specs.Quantities.{IsShortOf};
 ghost use Rattle.predict_steps.specs.Predictions.{prediction as prediction_of, AreSteps};

@@ -1,15 +1,15 @@
 -- A change of responses or of columns, and the coefficients that undo it.
 use Rattle.std.specs.Prelude.{◌≡◌, ◌≢◌, ℕ, ◌<◌, Bool, true, false, [], ◌∷◌, pos}
 use Rattle.std.proofs.Common.{refl, sym, ap, ap₂, subst, ◌∙◌}
-use Rattle.exact_algebra.specs.Solver.{number, negated as minus, ◌⊞◌, ◌⊟◌, ◌⊠◌, v0, v1, v2, v3, v4}
-use Rattle.exact_algebra.specs.Rational.{ℚ, ◌+ℚ◌, ◌-ℚ◌, ◌*ℚ◌, neg_ℚ, inverse, whole, ◌≤ℚ◌, le_ℚ}
-use Rattle.exact_algebra.proofs.RationalLaws.{ring_ℚ, ring_by_ℚ, *ℚ-inverse, ≤ℚ_mul, ≤ℚ_total}
-use Rattle.exact_algebra.specs.RationalSums.{sum_ℚ, positive_ℚ, negative_ℚ}
-use Rattle.exact_algebra.proofs.RationalSumLaws.{parts_ℚ, sum_ℚ-same, sum_ℚ-scale, sum_ℚ-add, sum_ℚ-swap, sum_ℚ-zero}
-use Rattle.exact_algebra.proofs.OrderLaws.{le_from_not, ≤ℚ_neg, same_le}
-use Rattle.exact_matrices.specs.Terms.{delta}
-use Rattle.exact_matrices.specs.Matrices.{AreInverse}
-use Rattle.exact_matrices.proofs.TermLaws.{delta-turned, sum_ℚ-delta}
+use Rattle.rational_laws.specs.Solver.{number, negated as minus, ◌⊞◌, ◌⊟◌, ◌⊠◌, v0, v1, v2, v3, v4}
+use Rattle.rational_laws.specs.Rational.{ℚ, ◌+ℚ◌, ◌-ℚ◌, ◌*ℚ◌, neg_ℚ, inverse, whole, ◌≤ℚ◌, le_ℚ}
+use Rattle.rational_laws.proofs.RationalLaws.{ring_ℚ, ring_by_ℚ, *ℚ-inverse, ≤ℚ_mul, ≤ℚ_total}
+use Rattle.rational_laws.specs.RationalSums.{sum_ℚ, positive_ℚ, negative_ℚ}
+use Rattle.rational_laws.proofs.RationalSumLaws.{parts_ℚ, sum_ℚ-same, sum_ℚ-scale, sum_ℚ-add, sum_ℚ-swap, sum_ℚ-zero}
+use Rattle.rational_laws.proofs.OrderLaws.{le_from_not, ≤ℚ_neg, same_le}
+use Rattle.rational_laws.specs.Terms.{delta}
+use Rattle.rational_laws.specs.Matrices.{AreInverse}
+use Rattle.rational_laws.proofs.TermLaws.{delta-turned, sum_ℚ-delta}
 use Rattle.loss_model.specs.Sample.{Sample, up_cost, down_cost, fitted, residual, row_loss, loss, Minimises}
 use Rattle.loss_model.specs.Dual.{IsFeasible, dual_objective}
 use Rattle.loss_model.specs.Complements.{IsComplementary}

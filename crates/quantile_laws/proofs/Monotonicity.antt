@@ -2,14 +2,14 @@
 use Rattle.std.specs.Prelude.{◌≡◌, ◌⊎◌, ℕ, zero, suc, ◌+◌, ◌-◌, ◌<◌, [], ◌∷◌, pos}
 use Rattle.std.specs.declared.cmp.Ordering.TheVariants.{Less}
 use Rattle.std.proofs.Common.{arith, refl, sym, ap, ap₂, subst, ◌∙◌, inl, inr}
-use Rattle.exact_algebra.specs.Solver.{number, negated, ◌⊞◌, ◌⊟◌, ◌⊠◌, v0, v1, v2, v3, v4, v5, v6, v7}
-use Rattle.exact_algebra.specs.Rational.{ℚ, ◌+ℚ◌, ◌-ℚ◌, ◌*ℚ◌, neg_ℚ, inverse, whole, ◌≤ℚ◌}
-use Rattle.exact_algebra.proofs.RationalLaws.{whole-add, ring_ℚ, ring_by_ℚ, ≤ℚ_refl, ≤ℚ_trans, ≤ℚ_antisym, ≤ℚ_mul}
-use Rattle.exact_algebra.specs.RationalSums.{sum_ℚ, positive_ℚ, negative_ℚ}
-use Rattle.exact_algebra.proofs.RationalSumLaws.{parts_ℚ, ≤ℚ_add2, sum_ℚ-le, sum_ℚ-same, sum_ℚ-mix, sum_ℚ-scale, sum_ℚ-swap, sum_ℚ-zero}
-use Rattle.exact_algebra.proofs.OrderLaws.{≤ℚ-minus, ≤ℚ-from_mul, ≤ℚ_cancel, le_from_not, inverse_not_negative, cmp_ℚ-Less}
-use Rattle.exact_algebra.specs.Order.{cmp_ℚ}
-use Rattle.exact_algebra.proofs.Signs.{whole_not_negative}
+use Rattle.rational_laws.specs.Solver.{number, negated, ◌⊞◌, ◌⊟◌, ◌⊠◌, v0, v1, v2, v3, v4, v5, v6, v7}
+use Rattle.rational_laws.specs.Rational.{ℚ, ◌+ℚ◌, ◌-ℚ◌, ◌*ℚ◌, neg_ℚ, inverse, whole, ◌≤ℚ◌}
+use Rattle.rational_laws.proofs.RationalLaws.{whole-add, ring_ℚ, ring_by_ℚ, ≤ℚ_refl, ≤ℚ_trans, ≤ℚ_antisym, ≤ℚ_mul}
+use Rattle.rational_laws.specs.RationalSums.{sum_ℚ, positive_ℚ, negative_ℚ}
+use Rattle.rational_laws.proofs.RationalSumLaws.{parts_ℚ, ≤ℚ_add2, sum_ℚ-le, sum_ℚ-same, sum_ℚ-mix, sum_ℚ-scale, sum_ℚ-swap, sum_ℚ-zero}
+use Rattle.rational_laws.proofs.OrderLaws.{≤ℚ-minus, ≤ℚ-from_mul, ≤ℚ_cancel, le_from_not, inverse_not_negative, cmp_ℚ-Less}
+use Rattle.rational_laws.specs.Order.{cmp_ℚ}
+use Rattle.rational_laws.proofs.Signs.{whole_not_negative}
 use Rattle.loss_model.specs.Strict.{◌<ℚ◌}
 use Rattle.loss_model.specs.Sample.{Sample, fitted, residual, row_loss, loss, Minimises}
 use Rattle.loss_model.specs.Dual.{mix}

@@ -3,17 +3,17 @@ use Rattle.std.specs.Prelude.{◌≡◌, ◌≢◌, ◌⊎◌, ℕ, zero, suc, �
 use Rattle.std.proofs.Common.{arith, refl, sym, ap, ap₂, subst, ◌∙◌, inl, inr}
 use Rattle.std.proofs.lemmas.Int.{ints}
 use Rattle.std.proofs.lemmas.Bool.{cases_lt, eqb-true, eqb-false}
-use Rattle.exact_algebra.specs.Solver.{number, negated, ◌⊞◌, ◌⊟◌, ◌⊠◌, v0, v1, v2}
-use Rattle.exact_algebra.specs.Rational.{ℚ, ◌+ℚ◌, ◌-ℚ◌, ◌*ℚ◌, neg_ℚ, inverse, whole, ◌≤ℚ◌, le_ℚ}
-use Rattle.exact_algebra.proofs.RationalLaws.{ring_ℚ, ring_by_ℚ, *ℚ-inverse, ≤ℚ_trans, ≤ℚ_antisym, ≤ℚ_mul, ≤ℚ_total}
-use Rattle.exact_algebra.specs.RationalSums.{positive_ℚ, negative_ℚ}
-use Rattle.exact_algebra.proofs.RationalSumLaws.{parts_ℚ, ≤ℚ_add2, ≤ℚ_from, sum_ℚ-same, sum_ℚ-scale}
-use Rattle.exact_algebra.proofs.WholeNumbers.{whole-le}
-use Rattle.exact_algebra.proofs.Inverses.{zero_or_not, one-zero, zero_from_product}
-use Rattle.exact_algebra.proofs.OrderLaws.{≤ℚ-minus, le_from_not, not_le, inverse_not_negative, same_le}
-use Rattle.exact_algebra.proofs.Signs.{product_not_negative}
-use Rattle.exact_matrices.specs.Terms.{delta}
-use Rattle.exact_matrices.proofs.TermLaws.{if-same, if-other}
+use Rattle.rational_laws.specs.Solver.{number, negated, ◌⊞◌, ◌⊟◌, ◌⊠◌, v0, v1, v2}
+use Rattle.rational_laws.specs.Rational.{ℚ, ◌+ℚ◌, ◌-ℚ◌, ◌*ℚ◌, neg_ℚ, inverse, whole, ◌≤ℚ◌, le_ℚ}
+use Rattle.rational_laws.proofs.RationalLaws.{ring_ℚ, ring_by_ℚ, *ℚ-inverse, ≤ℚ_trans, ≤ℚ_antisym, ≤ℚ_mul, ≤ℚ_total}
+use Rattle.rational_laws.specs.RationalSums.{positive_ℚ, negative_ℚ}
+use Rattle.rational_laws.proofs.RationalSumLaws.{parts_ℚ, ≤ℚ_add2, ≤ℚ_from, sum_ℚ-same, sum_ℚ-scale}
+use Rattle.rational_laws.proofs.WholeNumbers.{whole-le}
+use Rattle.rational_laws.proofs.Inverses.{zero_or_not, one-zero, zero_from_product}
+use Rattle.rational_laws.proofs.OrderLaws.{≤ℚ-minus, le_from_not, not_le, inverse_not_negative, same_le}
+use Rattle.rational_laws.proofs.Signs.{product_not_negative}
+use Rattle.rational_laws.specs.Terms.{delta}
+use Rattle.rational_laws.proofs.TermLaws.{if-same, if-other}
 use Rattle.loss_model.specs.Strict.{◌<ℚ◌}
 use Rattle.loss_model.specs.Sample.{Sample, up_cost, down_cost, residual, row_loss, loss}
 use Rattle.loss_model.specs.Complements.{IsComplementary, residual_change}

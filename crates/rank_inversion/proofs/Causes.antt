@@ -1,16 +1,16 @@
 -- Why an interval stops, by the part that stopped.
 use Rattle.std.specs.Prelude.{◌<◌, ℕ}
 use Rattle.std.proofs.Common.{refl, inl, inr}
-use Rattle.exact_algebra.specs.Fraction.{Fraction}
-use Rattle.exact_algebra.specs.Rational.{ℚ}
+use Rattle.rational_laws.specs.Fraction.{Fraction}
+use Rattle.rational_laws.specs.Rational.{ℚ}
 use Rattle.loss_model.specs.declared.problem.Problem.{Problem}
 use Rattle.loss_model.specs.declared.stop.Stop.{Stop}
 use Rattle.loss_model.specs.declared.stop.Stop.TheVariants.{OutOfMemory, PivotLimit, Overflow, Dependent}
 use Rattle.loss_model.specs.Problem.{sample}
 use Rattle.basis_inverse.specs.Square.{Square, inverse_entry}
-use Rattle.rank_law.specs.Gram.{projection_of}
-use Rattle.rank_law.specs.Restricted.{squared_length, rank_bound}
-use Rattle.rank_law.proofs.Grams.{projects}
+use Rattle.rank_model.specs.Gram.{projection_of}
+use Rattle.rank_model.specs.Restricted.{squared_length, rank_bound}
+use Rattle.rank_model.proofs.Grams.{projects}
 use Rattle.br_pivot.specs.Solves.{IsSolveStop}
 use Rattle.rank_inversion.specs.Grams.{IsGramInverse}
 use Rattle.rank_inversion.specs.GramStops.{IsGramStop, IsTestStop}

@@ -2,15 +2,15 @@
 use Rattle.std.specs.Prelude.{◌≡◌, ℕ, ◌<◌, List, length, slice_index}
 use Rattle.std.proofs.Common.{sym, ap, ◌∙◌}
 use Rattle.rank_tableau.proofs.Handed.{value_there}
-use Rattle.exact_algebra.specs.Fraction.{Fraction, rational}
-use Rattle.exact_algebra.specs.Rational.{ℚ}
+use Rattle.rational_laws.specs.Fraction.{Fraction, rational}
+use Rattle.rational_laws.specs.Rational.{ℚ}
 use Rattle.loss_model.specs.declared.vertex.Vertex.{Vertex}
 use Rattle.loss_model.specs.Problem.{value_at}
 use Rattle.basis_model.specs.Basis.{IsBasis}
-use Rattle.walk_rule.specs.Families.{dual_in}
-use Rattle.walk_rule.proofs.Tested.{values}
-use Rattle.rank_walk.specs.Crossings.{parameter_of}
-use Rattle.rank_walk.specs.Ends.{AreValuesOf}
+use Rattle.walk_model.specs.Families.{dual_in}
+use Rattle.walk_model.proofs.Tested.{values}
+use Rattle.rank_walk_model.specs.Crossings.{parameter_of}
+use Rattle.rank_walk_model.specs.Ends.{AreValuesOf}
 use Rattle.rank_inversion.specs.declared.station.Station.{Station}
 use Rattle.rank_steps.specs.Ways.{way_of}
 use Rattle.rank_inversion.specs.Courses.{tau_of, family_of}

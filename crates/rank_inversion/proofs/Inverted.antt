@@ -1,8 +1,8 @@
 -- The interval of both walks, and why it stops.
 use Rattle.std.specs.Prelude.{◌≡◌, ◌⊎◌, ◌+◌, ◌≤◌, ◌<◌, ℕ, List, [], length, Some, pos}
 use Rattle.std.proofs.Common.{Err, arith, refl, sym, ap, subst, ◌∙◌, inl, inr}
-use Rattle.exact_algebra.specs.Fraction.{Fraction, rational}
-use Rattle.exact_algebra.specs.Rational.{ℚ, whole, ◌≤ℚ◌}
+use Rattle.rational_laws.specs.Fraction.{Fraction, rational}
+use Rattle.rational_laws.specs.Rational.{ℚ, whole, ◌≤ℚ◌}
 use Rattle.loss_model.specs.declared.interval.Interval.{Interval}
 use Rattle.loss_model.specs.declared.problem.Problem.{Problem}
 use Rattle.loss_model.specs.declared.process.Exchange.{Exchange}
@@ -13,16 +13,16 @@ use Rattle.loss_model.specs.Problem.{value_at, sample}
 use Rattle.loss_model.specs.Sample.{Sample}
 use Rattle.loss_model.specs.StartStop.{IsDependent}
 use Rattle.basis_inverse.specs.Square.{inverse_entry}
-use Rattle.pivot_rule.specs.Duals.{HasCosts}
-use Rattle.pivot_rule.specs.Trails.{IsOptimalBasis}
-use Rattle.pivot_rule.proofs.Solved.{full_rank}
-use Rattle.walk_rule.specs.WalkTrails.{AreWalkingSteps, IsIntervalTrail, HasRisen, ReachesIntervalLimit, is_within}
-use Rattle.walk_rule.proofs.Trails.{one_interval}
-use Rattle.rank_law.specs.Restricted.{IsProjection, squared_length, rank_bound}
-use Rattle.rank_law.proofs.Lengths.{one_length}
-use Rattle.rank_walk.specs.Intervals.{IsAsked, IsWalked, bound_by, when_on}
-use Rattle.rank_walk.specs.RankWalks.{rise, fall, tested as walk}
-use Rattle.rank_walk.proofs.Intervals.{exact_interval}
+use Rattle.pivot_model.specs.Duals.{HasCosts}
+use Rattle.pivot_model.specs.Trails.{IsOptimalBasis}
+use Rattle.pivot_model.proofs.Solved.{full_rank}
+use Rattle.walk_model.specs.WalkTrails.{AreWalkingSteps, IsIntervalTrail, HasRisen, ReachesIntervalLimit, is_within}
+use Rattle.walk_model.proofs.Trails.{one_interval}
+use Rattle.rank_model.specs.Restricted.{IsProjection, squared_length, rank_bound}
+use Rattle.rank_model.proofs.Lengths.{one_length}
+use Rattle.rank_walk_model.specs.Intervals.{IsAsked, IsWalked, bound_by, when_on}
+use Rattle.rank_walk_model.specs.RankWalks.{rise, fall, tested as walk}
+use Rattle.rank_walk_model.proofs.Intervals.{exact_interval}
 use Rattle.fraction_tableau.proofs.Inverses.{basis_of, ends_of}
 use Rattle.br_pivot.specs.Solves.{IsLimitAnswer}
 use Rattle.rank_steps.specs.declared.way.Way.TheVariants.{Rise, Fall}

@@ -1,9 +1,9 @@
 -- The interval of a solve and of both walks from it.
 use Rattle.std.specs.Prelude.{◌≡◌, ◌⊎◌, ◌+◌, ◌≤◌, ℕ, List, [], length, Option, IfSome, pos}
 use Rattle.std.proofs.Common.{refl, inr}
-use Rattle.exact_algebra.specs.Fraction.{Fraction, rational}
-use Rattle.exact_algebra.specs.Rational.{ℚ, whole, ◌≤ℚ◌}
-use Rattle.exact_algebra.proofs.OrderLaws.{le_from_not}
+use Rattle.rational_laws.specs.Fraction.{Fraction, rational}
+use Rattle.rational_laws.specs.Rational.{ℚ, whole, ◌≤ℚ◌}
+use Rattle.rational_laws.proofs.OrderLaws.{le_from_not}
 use Rattle.loss_model.specs.declared.interval.End.{End}
 use Rattle.loss_model.specs.declared.interval.Interval.{Interval}
 use Rattle.loss_model.specs.declared.problem.Problem.{Problem}
@@ -12,18 +12,18 @@ use Rattle.loss_model.specs.declared.process.Trail.{Trail}
 use Rattle.loss_model.specs.Problem.{value_at, sample}
 use Rattle.loss_model.specs.Sample.{Sample}
 use Rattle.loss_model.specs.Strict.{◌<ℚ◌}
-use Rattle.pivot_rule.specs.Duals.{HasCosts}
-use Rattle.pivot_rule.specs.Trails.{IsOptimalBasis, IsSolvingTrail}
-use Rattle.walk_rule.specs.WalkTrails.{AreWalkingSteps, IsIntervalTrail, HasRisen, is_within}
-use Rattle.rank_law.specs.Restricted.{IsProjection, squared_length}
-use Rattle.rank_walk.specs.Intervals.{IsIntervalOf, IsAsked, IsWalked, bound_by, when_on}
-use Rattle.rank_walk.specs.RankWalks.{Way, rise, fall, tested}
-use Rattle.rank_walk.proofs.Intervals.{passes}
+use Rattle.pivot_model.specs.Duals.{HasCosts}
+use Rattle.pivot_model.specs.Trails.{IsOptimalBasis, IsSolvingTrail}
+use Rattle.walk_model.specs.WalkTrails.{AreWalkingSteps, IsIntervalTrail, HasRisen, is_within}
+use Rattle.rank_model.specs.Restricted.{IsProjection, squared_length}
+use Rattle.rank_walk_model.specs.Intervals.{IsIntervalOf, IsAsked, IsWalked, bound_by, when_on}
+use Rattle.rank_walk_model.specs.RankWalks.{Way, rise, fall, tested}
+use Rattle.rank_walk_model.proofs.Intervals.{passes}
 use Rattle.rank_inversion.specs.declared.column_test.Asked.{Asked}
 use Rattle.rank_inversion.specs.Intervals.{IsRankInterval}
 use Rattle.rank_inversion.specs.Inversions.{IsAskable}
 use Rattle.rank_inversion.specs.Trails.{with_walks}
-use Rattle.pivot_rule.proofs.DataRows.{data_costs}
+use Rattle.pivot_model.proofs.DataRows.{data_costs}
 use Rattle.rank_inversion.proofs.NoStep.{walk_is_ended}
 
 pub at_most : (x y : ℚ) → x <ℚ y → x ≤ℚ y

@@ -1,8 +1,8 @@
 -- What stands at a basis on a walk as it is looked at, and what overflows there.
 use Rattle.std.specs.Prelude.{◌≡◌, ℕ, ◌<◌, List, length, slice_index}
 use Rattle.std.proofs.Common.{subst, arith}
-use Rattle.exact_algebra.specs.Fraction.{Fraction}
-use Rattle.exact_algebra.specs.Rational.{◌+ℚ◌, ◌*ℚ◌}
+use Rattle.rational_laws.specs.Fraction.{Fraction}
+use Rattle.rational_laws.specs.Rational.{◌+ℚ◌, ◌*ℚ◌}
 use Rattle.loss_model.specs.declared.spill.Short.{Short}
 use Rattle.loss_model.specs.declared.spill.Spill.{Spill}
 use Rattle.loss_model.specs.Problem.{value_at, sample}

@@ -1,8 +1,8 @@
 -- Where a walk hands out its end, no step of it is left.
 use Rattle.std.specs.Prelude.{◌≡◌, ◌≤◌, ◌<◌, ℕ, true, false, List, slice_index, pos}
 use Rattle.std.proofs.Common.{sym, subst, ◌∙◌}
-use Rattle.exact_algebra.specs.Fraction.{Fraction}
-use Rattle.exact_algebra.specs.Rational.{ℚ, ◌*ℚ◌, whole, ◌≤ℚ◌}
+use Rattle.rational_laws.specs.Fraction.{Fraction}
+use Rattle.rational_laws.specs.Rational.{ℚ, ◌*ℚ◌, whole, ◌≤ℚ◌}
 use Rattle.loss_model.specs.declared.interval.Beyond.{Beyond}
 use Rattle.loss_model.specs.declared.interval.Beyond.TheVariants.{Outside, Ray}
 use Rattle.loss_model.specs.declared.interval.Bound.{Bound}
@@ -12,17 +12,17 @@ use Rattle.loss_model.specs.declared.problem.Problem.{Problem}
 use Rattle.loss_model.specs.declared.process.Exchange.{Exchange}
 use Rattle.loss_model.specs.Sample.{Sample}
 use Rattle.loss_model.specs.Problem.{sample}
-use Rattle.pivot_rule.specs.declared.direction.Direction.{Direction}
-use Rattle.pivot_rule.specs.Duals.{◌<ℚ◌}
-use Rattle.pivot_rule.specs.Steps.{moves}
-use Rattle.pivot_rule.specs.Trails.{basis_after}
-use Rattle.walk_rule.specs.Families.{Family}
-use Rattle.walk_rule.specs.Walks.{IsNextBreak, IsWalkingStep}
-use Rattle.walk_rule.proofs.Unique.{same_place, same_position}
-use Rattle.walk_rule.specs.WalkTrails.{value_after, is_within, IsEndAfter}
-use Rattle.rank_walk.specs.Ends.{IsHandedOut, IsEndAt}
-use Rattle.rank_walk.specs.Intervals.{when_on, IsWalked}
-use Rattle.rank_walk.specs.RankWalks.{Way, rise, fall, tested}
+use Rattle.pivot_model.specs.declared.direction.Direction.{Direction}
+use Rattle.pivot_model.specs.Duals.{◌<ℚ◌}
+use Rattle.pivot_model.specs.Steps.{moves}
+use Rattle.pivot_model.specs.Trails.{basis_after}
+use Rattle.walk_model.specs.Families.{Family}
+use Rattle.walk_model.specs.Walks.{IsNextBreak, IsWalkingStep}
+use Rattle.walk_model.proofs.Unique.{same_place, same_position}
+use Rattle.walk_model.specs.WalkTrails.{value_after, is_within, IsEndAfter}
+use Rattle.rank_walk_model.specs.Ends.{IsHandedOut, IsEndAt}
+use Rattle.rank_walk_model.specs.Intervals.{when_on, IsWalked}
+use Rattle.rank_walk_model.specs.RankWalks.{Way, rise, fall, tested}
 use Rattle.rank_steps.proofs.Directions.{one_direction}
 use Rattle.rank_tableau.proofs.Breaks.{crossed}
 

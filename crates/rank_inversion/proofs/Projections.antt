@@ -1,15 +1,15 @@
 -- What the inverse of the Gram matrix gives.
 use Rattle.std.specs.Prelude.{◌≡◌, ◌≢◌, ℕ, ◌<◌, pos}
 use Rattle.std.proofs.Common.{sym, subst, ◌∙◌}
-use Rattle.exact_algebra.specs.Rational.{ℚ, inverse, whole, ◌≤ℚ◌}
-use Rattle.exact_algebra.proofs.RationalLaws.{≤ℚ_refl}
-use Rattle.exact_matrices.specs.Matrices.{AreInverse}
+use Rattle.rational_laws.specs.Rational.{ℚ, inverse, whole, ◌≤ℚ◌}
+use Rattle.rational_laws.proofs.RationalLaws.{≤ℚ_refl}
+use Rattle.rational_laws.specs.Matrices.{AreInverse}
 use Rattle.loss_model.specs.Strict.{◌<ℚ◌}
 use Rattle.loss_model.specs.Sample.{Sample}
-use Rattle.rank_law.specs.Restricted.{IsProjection, squared_length}
-use Rattle.rank_law.specs.Gram.{gram, projection_of}
-use Rattle.rank_law.proofs.Grams.{projects}
-use Rattle.rank_law.proofs.Lengths.{by_entries, one_length}
+use Rattle.rank_model.specs.Restricted.{IsProjection, squared_length}
+use Rattle.rank_model.specs.Gram.{gram, projection_of}
+use Rattle.rank_model.proofs.Grams.{projects}
+use Rattle.rank_model.proofs.Lengths.{by_entries, one_length}
 
 module _ (p : Sample) (j : ℕ) (a : ℕ → ℕ → ℚ) (within : j < p.columns) (inv : AreInverse p.columns (gram p) a) where
   -- the diagonal entry isn't 0

@@ -1,15 +1,15 @@
 -- What the work for one quantile and for one column needs.
 use Rattle.std.proofs.Common.{◌<◌, pos}
-use Rattle.exact_algebra.specs.Fraction.{Fraction, rational}
-use Rattle.exact_algebra.specs.Rational.{whole}
-use Rattle.exact_algebra.proofs.OrderLaws.{le_from_not}
+use Rattle.rational_laws.specs.Fraction.{Fraction, rational}
+use Rattle.rational_laws.specs.Rational.{whole}
+use Rattle.rational_laws.proofs.OrderLaws.{le_from_not}
 use Rattle.loss_model.specs.declared.interval.Interval.{Interval}
 use Rattle.loss_model.specs.declared.problem.Problem.{Problem}
 use Rattle.loss_model.specs.Problem.{sample}
-use Rattle.pivot_rule.specs.Duals.{HasCosts}
+use Rattle.pivot_model.specs.Duals.{HasCosts}
 use Rattle.rank_inversion.specs.Inversions.{IsAskable}
 use Rattle.rank_inversion.specs.declared.column_test.Asked.{Asked}
-use Rattle.pivot_rule.proofs.DataRows.{data_costs}
+use Rattle.pivot_model.proofs.DataRows.{data_costs}
 use Rattle.rank_inversion.specs.Intervals.{HasFactors}
 use Rattle.rank_inversion.specs.AllIntervals.{IsFor}
 use Rattle.rank_inversion.specs.RankProblems.{IsInner, IsRankable}

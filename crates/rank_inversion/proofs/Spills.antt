@@ -1,10 +1,10 @@
 -- The operations of a walk where one overflows, as they are found.
 use Rattle.std.specs.Prelude.{◌≡◌, ℕ, ◌<◌, true, [], ◌∷◌, pos}
 use Rattle.std.proofs.Common.{refl, sym, ap, subst, ◌∙◌, inl, inr}
-use Rattle.exact_algebra.specs.Fraction.{Fraction}
-use Rattle.exact_algebra.specs.Solver.{number, ◌⊟◌, v0}
-use Rattle.exact_algebra.specs.Rational.{ℚ, ◌-ℚ◌, whole}
-use Rattle.exact_algebra.proofs.RationalLaws.{ring_ℚ}
+use Rattle.rational_laws.specs.Fraction.{Fraction}
+use Rattle.rational_laws.specs.Solver.{number, ◌⊟◌, v0}
+use Rattle.rational_laws.specs.Rational.{ℚ, ◌-ℚ◌, whole}
+use Rattle.rational_laws.proofs.RationalLaws.{ring_ℚ}
 use Rattle.frac_core.specs.declared.exact.OpKind.TheVariants.{Sub, Div}
 use Rattle.loss_model.specs.declared.spill.Quantity.TheVariants.{DualValue}
 use Rattle.loss_model.specs.declared.spill.Spill.{Spill}
@@ -15,16 +15,16 @@ use Rattle.loss_model.specs.Vertex.{value_of_side}
 use Rattle.basis_model.specs.declared.part.Part.TheVariants.{Constant, Linear}
 use Rattle.basis_model.specs.Basis.{basic_dual, dual_value}
 use Rattle.basis_model.specs.BasisSpills.{IsBasisSpill, IsDualValueSpill}
-use Rattle.pivot_rule.specs.declared.direction.Direction.{Direction}
-use Rattle.pivot_rule.specs.declared.direction.Direction.TheVariants.{Upward, Downward}
-use Rattle.pivot_rule.specs.Spills.{IsCostSpill}
-use Rattle.walk_rule.specs.Walks.{side_towards, IsNextBreak, IsWalkingStep}
-use Rattle.walk_rule.specs.WalkTrails.{is_within}
-use Rattle.walk_rule.specs.WalkSpills.{IsCrossingOperation, of_basis, of_dual, of_cost, of_crossing, of_entered, of_break, of_pivot, of_ratio, of_tie, of_exchange}
-use Rattle.walk_rule.proofs.Slopes.{crossing}
+use Rattle.pivot_model.specs.declared.direction.Direction.{Direction}
+use Rattle.pivot_model.specs.declared.direction.Direction.TheVariants.{Upward, Downward}
+use Rattle.pivot_model.specs.Spills.{IsCostSpill}
+use Rattle.walk_model.specs.Walks.{side_towards, IsNextBreak, IsWalkingStep}
+use Rattle.walk_model.specs.WalkTrails.{is_within}
+use Rattle.walk_model.specs.WalkSpills.{IsCrossingOperation, of_basis, of_dual, of_cost, of_crossing, of_entered, of_break, of_pivot, of_ratio, of_tie, of_exchange}
+use Rattle.walk_model.proofs.Slopes.{crossing}
 use Rattle.fraction_tableau.specs.Lines.{IsOrderSpill, at_coordinates, at_ratio, at_tie}
-use Rattle.rank_walk.specs.RankWalks.{Way, rise, fall, tested}
-use Rattle.rank_walk.specs.Crossings.{parameter_of, bound_towards, IsMoving}
+use Rattle.rank_walk_model.specs.RankWalks.{Way, rise, fall, tested}
+use Rattle.rank_walk_model.specs.Crossings.{parameter_of, bound_towards, IsMoving}
 use Rattle.rank_inversion.specs.Stops.{IsRankSpill, of_walk}
 use Rattle.rank_tableau.proofs.Breaks.{turned_twice, crosses}
 

@@ -4,11 +4,11 @@ use Rattle.std.specs.List.Sorted.{IsStrictlyIncreasing}
 use Rattle.std.specs.Ordering.{is_gt}
 use Rattle.std.proofs.Common.{refl, sym, ap, ap₂, subst, ◌∙◌, inl, inr, arith}
 use Rattle.gram_matrix.proofs.Rows.{operation}
-use Rattle.exact_algebra.specs.Fraction.{Fraction, rational}
-use Rattle.exact_algebra.specs.Solver.{negated, ◌⊠◌, v0}
-use Rattle.exact_algebra.specs.Rational.{ℚ, ◌-ℚ◌, ◌*ℚ◌, inverse, whole, ◌≤ℚ◌}
-use Rattle.exact_algebra.specs.Order.{cmp_ℚ}
-use Rattle.exact_algebra.proofs.RationalLaws.{ring_ℚ, ≤ℚ_refl}
+use Rattle.rational_laws.specs.Fraction.{Fraction, rational}
+use Rattle.rational_laws.specs.Solver.{negated, ◌⊠◌, v0}
+use Rattle.rational_laws.specs.Rational.{ℚ, ◌-ℚ◌, ◌*ℚ◌, inverse, whole, ◌≤ℚ◌}
+use Rattle.rational_laws.specs.Order.{cmp_ℚ}
+use Rattle.rational_laws.proofs.RationalLaws.{ring_ℚ, ≤ℚ_refl}
 use Rattle.loss_model.specs.declared.interval.Beyond.TheVariants.{Outside, Ray}
 use Rattle.loss_model.specs.declared.interval.Bound.TheVariants.{Finite, Infinite}
 use Rattle.loss_model.specs.declared.spill.Spill.{Spill}
@@ -20,14 +20,14 @@ use Rattle.frac_core.specs.declared.exact.OpKind.TheVariants.{Sub, Div}
 use Rattle.frac_core.specs.Overflow.{Overflows}
 use Rattle.loss_model.specs.declared.spill.Quantity.TheVariants.{Statistic, DualValue, Crossing}
 use Rattle.basis_model.specs.Basis.{IsBasis, coefficient, dual_value}
-use Rattle.pivot_rule.specs.declared.direction.Direction.{Direction}
-use Rattle.pivot_rule.specs.Duals.{◌<ℚ◌}
-use Rattle.pivot_rule.specs.Results.{IsVertexAt}
-use Rattle.pivot_rule.specs.Spills.{direction_number}
-use Rattle.walk_rule.specs.Families.{IsOptimalIn, dual_in}
-use Rattle.walk_rule.specs.Walks.{IsFirstMover, IsNextBreak, IsWalkingStep}
-use Rattle.walk_rule.specs.WalkTrails.{is_within}
-use Rattle.walk_rule.proofs.Lines.{decide}
+use Rattle.pivot_model.specs.declared.direction.Direction.{Direction}
+use Rattle.pivot_model.specs.Duals.{◌<ℚ◌}
+use Rattle.pivot_model.specs.Results.{IsVertexAt}
+use Rattle.pivot_model.specs.Spills.{direction_number}
+use Rattle.walk_model.specs.Families.{IsOptimalIn, dual_in}
+use Rattle.walk_model.specs.Walks.{IsFirstMover, IsNextBreak, IsWalkingStep}
+use Rattle.walk_model.specs.WalkTrails.{is_within}
+use Rattle.walk_model.proofs.Lines.{decide}
 use Rattle.fraction_tableau.specs.declared.crossings.Breakpoint.{Breakpoint}
 use Rattle.fraction_tableau.specs.Crossings.{IsCrossingAt, IsFirstOf}
 use Rattle.fraction_tableau.specs.Inverses.{HasValueAt}
@@ -40,9 +40,9 @@ use Rattle.fraction_tableau.proofs.Lists.{value_read}
 use Rattle.fraction_tableau.proofs.NextSteps.{standing_by}
 use Rattle.fraction_tableau.proofs.Places.{kept_is_place}
 use Rattle.fraction_tableau.proofs.Vertices.{is_vertex}
-use Rattle.rank_walk.specs.Crossings.{parameter_of, bound_towards}
-use Rattle.rank_walk.specs.RankWalks.{Way, rise, fall, tested, ray}
-use Rattle.rank_walk.specs.Ends.{AreValuesOf}
+use Rattle.rank_walk_model.specs.Crossings.{parameter_of, bound_towards}
+use Rattle.rank_walk_model.specs.RankWalks.{Way, rise, fall, tested, ray}
+use Rattle.rank_walk_model.specs.Ends.{AreValuesOf}
 use Rattle.rank_tableau.specs.declared.finding.Finding.TheVariants.{Step, Past, Stuck}
 use Rattle.rank_inversion.specs.declared.station.Station.{Station}
 use Rattle.rank_steps.specs.Ways.{way_of}

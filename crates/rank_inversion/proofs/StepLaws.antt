@@ -1,7 +1,7 @@
 -- The walking step of a tested value, as it is made.
 use Rattle.std.specs.Prelude.{◌≢◌, ℕ, ◌<◌, Bool, length, slice_index, pos}
-use Rattle.exact_algebra.specs.Fraction.{Fraction}
-use Rattle.exact_algebra.specs.Rational.{ℚ, whole}
+use Rattle.rational_laws.specs.Fraction.{Fraction}
+use Rattle.rational_laws.specs.Rational.{ℚ, whole}
 use Rattle.loss_model.specs.declared.process.Exchange.{Exchange}
 use Rattle.loss_model.specs.declared.spill.Short.{Short}
 use Rattle.loss_model.specs.Sample.{Sample}
@@ -9,10 +9,10 @@ use Rattle.loss_model.specs.Problem.{sample}
 use Rattle.loss_model.specs.Quantities.{IsShortOf, IsExchangeSpill}
 use Rattle.basis_inverse.specs.Square.{inverse_entry}
 use Rattle.basis_model.specs.Basis.{coord}
-use Rattle.pivot_rule.proofs.Passing.{mover_some}
-use Rattle.walk_rule.specs.Walks.{IsWalkingStep}
+use Rattle.pivot_model.proofs.Passing.{mover_some}
+use Rattle.walk_model.specs.Walks.{IsWalkingStep}
 use Rattle.fraction_tableau.specs.Kept.{Kept}
-use Rattle.rank_walk.specs.RankWalks.{Way, rise, fall, tested}
+use Rattle.rank_walk_model.specs.RankWalks.{Way, rise, fall, tested}
 use Rattle.rank_inversion.specs.declared.course.Course.{Course}
 use Rattle.rank_steps.specs.Ways.{way_of}
 use Rattle.rank_inversion.specs.Courses.{tau_of, bound_of, parameter_at}

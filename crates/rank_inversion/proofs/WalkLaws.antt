@@ -2,9 +2,9 @@
 use Rattle.std.specs.Prelude.{◌≡◌, ◌<◌, ◌≤◌, ◌++◌, ◌∷◌, [], ℕ, List, length, slice_index, slice_set, pos}
 use Rattle.std.proofs.Common.{refl, sym, ap, subst, ◌∙◌}
 use Rattle.rank_tableau.proofs.Along.{nothing_at, when_is}
-use Rattle.exact_algebra.specs.Fraction.{Fraction, rational}
-use Rattle.exact_algebra.specs.Rational.{ℚ, whole}
-use Rattle.exact_matrices.specs.Exchange.{exchanged}
+use Rattle.rational_laws.specs.Fraction.{Fraction, rational}
+use Rattle.rational_laws.specs.Rational.{ℚ, whole}
+use Rattle.rational_laws.specs.Exchange.{exchanged}
 use Rattle.loss_model.specs.declared.interval.End.{End}
 use Rattle.loss_model.specs.declared.problem.Problem.{Problem}
 use Rattle.loss_model.specs.declared.process.Exchange.{Exchange}
@@ -14,18 +14,18 @@ use Rattle.loss_model.specs.Problem.{sample}
 use Rattle.loss_model.specs.Quantities.{IsShortOf}
 use Rattle.basis_inverse.specs.Square.{inverse_entry}
 use Rattle.basis_model.specs.Basis.{IsBasis}
-use Rattle.pivot_rule.specs.Duals.{HasCosts}
-use Rattle.pivot_rule.specs.Trails.{EndsAt}
-use Rattle.pivot_rule.proofs.Unique.{same_inverse}
-use Rattle.walk_rule.specs.Families.{IsOptimalIn}
-use Rattle.walk_rule.specs.Walks.{IsWalkingStep}
-use Rattle.walk_rule.specs.WalkTrails.{value_after, HasStepAfter, is_within}
+use Rattle.pivot_model.specs.Duals.{HasCosts}
+use Rattle.pivot_model.specs.Trails.{EndsAt}
+use Rattle.pivot_model.proofs.Unique.{same_inverse}
+use Rattle.walk_model.specs.Families.{IsOptimalIn}
+use Rattle.walk_model.specs.Walks.{IsWalkingStep}
+use Rattle.walk_model.specs.WalkTrails.{value_after, HasStepAfter, is_within}
 use Rattle.fraction_tableau.proofs.Inverses.{basis_of, ends_of}
-use Rattle.rank_walk.specs.Ends.{IsEndAt}
-use Rattle.rank_walk.specs.Intervals.{when_on}
-use Rattle.rank_walk.specs.Loops.{IsWalking}
-use Rattle.rank_walk.specs.RankWalks.{Way, rise, fall, tested}
-use Rattle.rank_walk.proofs.Loops as loop
+use Rattle.rank_walk_model.specs.Ends.{IsEndAt}
+use Rattle.rank_walk_model.specs.Intervals.{when_on}
+use Rattle.rank_walk_model.specs.Loops.{IsWalking}
+use Rattle.rank_walk_model.specs.RankWalks.{Way, rise, fall, tested}
+use Rattle.rank_walk_model.proofs.Loops as loop
 use Rattle.rank_inversion.specs.declared.course.Course.{Course}
 use Rattle.rank_inversion.specs.declared.walking.Walk.{Walk}
 use Rattle.rank_inversion.specs.declared.walking.WalkHalt.{WalkHalt}

@@ -1,11 +1,11 @@
 -- The interval of both walks in whole numbers.
 use Rattle.std.specs.Prelude.{◌-◌, ◌+◌, ◌≤◌, ℕ, length}
 use Rattle.std.proofs.Common.{arith, sym, subst}
-use Rattle.exact_algebra.specs.Fraction.{Fraction, rational}
+use Rattle.rational_laws.specs.Fraction.{Fraction, rational}
 use Rattle.loss_model.specs.declared.interval.Interval.{Interval}
 use Rattle.loss_model.specs.declared.problem.Problem.{Problem}
 use Rattle.loss_model.specs.Problem.{sample}
-use Rattle.pivot_rule.specs.Trails.{IsOptimalBasis}
+use Rattle.pivot_model.specs.Trails.{IsOptimalBasis}
 use Rattle.whole_tableau.specs.Kept.{place}
 use Rattle.whole_tableau.proofs.Places.{kept_is_place}
 use Rattle.rank_tableau.specs.declared.sides.BothSides.{BothSides}

@@ -2,7 +2,7 @@
 -- function into pairs.
 use Rattle.std.specs.Prelude.{◌≡◌, ℕ, List, ◌∷◌, ◌++◌, map, ⊤}
 use Rattle.std.specs.List.{AllZip, flat_map, range_with_len}
-use Rattle.exact_algebra.specs.Fraction.{Fraction, rational}
+use Rattle.rational_laws.specs.Fraction.{Fraction, rational}
 use Rattle.loss_model.specs.declared.interval.Interval.{Interval}
 use Rattle.loss_model.specs.declared.problem.Problem.{Problem}
 use Rattle.loss_model.specs.declared.stop.Stop.{Stop}

@@ -1,6 +1,6 @@
 -- Inner. What the jobs of rank intervals answer.
 use Rattle.std.specs.Prelude.{◌≡◌, ℕ, Result, Ok, Err, IfSome}
-use Rattle.exact_algebra.specs.Fraction.{Fraction, rational}
+use Rattle.rational_laws.specs.Fraction.{Fraction, rational}
 use Rattle.loss_model.specs.declared.interval.Interval.{Interval}
 use Rattle.rank_inversion.specs.Wholes.{IsStarted}
 use Rattle.rank_inversion.specs.Stops.{IsIntervalStop}

@@ -1,13 +1,13 @@
 -- Inner. The walks of a tested value as the code has them.
 use Rattle.std.specs.Prelude.{ℕ}
-use Rattle.exact_algebra.specs.Fraction.{Fraction, rational}
-use Rattle.exact_algebra.specs.Rational.{ℚ, ◌-ℚ◌, ◌*ℚ◌, inverse}
+use Rattle.rational_laws.specs.Fraction.{Fraction, rational}
+use Rattle.rational_laws.specs.Rational.{ℚ, ◌-ℚ◌, ◌*ℚ◌, inverse}
 use Rattle.loss_model.specs.Sample.{Sample}
 use Rattle.basis_model.specs.Basis.{dual_value}
-use Rattle.pivot_rule.specs.declared.direction.Direction.{Direction}
-use Rattle.walk_rule.specs.Families.{Family}
-use Rattle.rank_walk.specs.RankWalks.{tested}
-use Rattle.rank_walk.specs.Crossings.{parameter_of, bound_towards, IsMoving}
+use Rattle.pivot_model.specs.declared.direction.Direction.{Direction}
+use Rattle.walk_model.specs.Families.{Family}
+use Rattle.rank_walk_model.specs.RankWalks.{tested}
+use Rattle.rank_walk_model.specs.Crossings.{parameter_of, bound_towards, IsMoving}
 use Rattle.rank_steps.specs.Ways.{way_of}
 use Rattle.rank_inversion.specs.declared.course.Course.{Course}
 

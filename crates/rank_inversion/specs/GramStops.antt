@@ -1,8 +1,8 @@
 -- Stated. Why a column isn't tested: the trail before the solve, and the operation that overflows there.
 use Rattle.std.specs.Prelude.{◌≡◌, ◌⊎◌, ℕ, List, [], ◌∷◌, map, Some, pos}
-use Rattle.exact_algebra.specs.Fraction.{Fraction}
-use Rattle.exact_algebra.specs.Rational.{ℚ, ◌-ℚ◌, ◌*ℚ◌, inverse, whole}
-use Rattle.exact_matrices.specs.Matrices.{AreInverse}
+use Rattle.rational_laws.specs.Fraction.{Fraction}
+use Rattle.rational_laws.specs.Rational.{ℚ, ◌-ℚ◌, ◌*ℚ◌, inverse, whole}
+use Rattle.rational_laws.specs.Matrices.{AreInverse}
 use Rattle.loss_model.specs.declared.problem.Problem.{Problem}
 use Rattle.loss_model.specs.declared.process.Trail.{Trail}
 use Rattle.loss_model.specs.declared.spill.Quantity.TheVariants.{Statistic}
@@ -13,7 +13,7 @@ use Rattle.loss_model.specs.Problem.{sample}
 use Rattle.loss_model.specs.Greedy.{IsGreedyBasis}
 use Rattle.loss_model.specs.Spill.{IsAmong, multiplication, subtraction, site_of}
 use Rattle.loss_model.specs.StartStop.{IsStartSpill, IsDependent}
-use Rattle.rank_law.specs.Gram.{gram, IsGramOf}
+use Rattle.rank_model.specs.Gram.{gram, IsGramOf}
 pub use Rattle.gram_matrix.specs.Grams.{IsEmptyTrail, IsGramSpillAfter}
 use Rattle.rank_inversion.specs.Grams.{IsGramInverse, IsProjectingSpill}
 use Rattle.rank_inversion.specs.declared.gram.GramInverse.{GramInverse}

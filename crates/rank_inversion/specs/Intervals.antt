@@ -1,14 +1,14 @@
 -- Stated. What a rank interval is (Koenker 2005, section 3.5).
 use Rattle.std.specs.Prelude.{◌≡◌, ◌↔◌, ◌+◌, ◌≤◌, ℕ, length, is_some, true, IfSome}
-use Rattle.exact_algebra.specs.Fraction.{Fraction}
-use Rattle.exact_algebra.specs.Rational.{ℚ}
+use Rattle.rational_laws.specs.Fraction.{Fraction}
+use Rattle.rational_laws.specs.Rational.{ℚ}
 use Rattle.loss_model.specs.declared.interval.Interval.{Interval}
 use Rattle.loss_model.specs.declared.problem.Problem.{Problem}
 use Rattle.loss_model.specs.Problem.{sample}
-use Rattle.rank_law.specs.Restricted.{Holds}
-use Rattle.rank_law.specs.Bounds.{IsAtLeast, IsAtMost}
-use Rattle.rank_law.specs.Certified.{bound_of}
-use Rattle.rank_walk.specs.Intervals.{IsIntervalOf, MeetsConditionsBy}
+use Rattle.rank_model.specs.Restricted.{Holds}
+use Rattle.rank_model.specs.Bounds.{IsAtLeast, IsAtMost}
+use Rattle.rank_model.specs.Certified.{bound_of}
+use Rattle.rank_walk_model.specs.Intervals.{IsIntervalOf, MeetsConditionsBy}
 
 -- the values between its ends are exactly those that hold
 abbrev pub IsExactInterval : {F : Type 0} → (F → Fraction) → Problem F → ℕ → ℚ → ℚ → Interval F → Type 0

@@ -1,6 +1,6 @@
 -- Inner. What a job of a rank interval is asked, and that it answers what `interval` does.
 use Rattle.std.specs.Prelude.{ℕ, ◌-◌, ◌^◌, IfErr, IfOk, Result}
-use Rattle.exact_algebra.specs.Fraction.{Fraction, rational}
+use Rattle.rational_laws.specs.Fraction.{Fraction, rational}
 use Rattle.frac_core.specs.Values.{value}
 use Rattle.loss_model.specs.declared.interval.Interval.{Interval}
 use Rattle.loss_model.specs.declared.problem.Problem.{Problem}

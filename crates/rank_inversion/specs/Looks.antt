@@ -1,15 +1,15 @@
 -- Inner. What a walk comes to at a basis: the walking step, or the end.
 use Rattle.std.specs.Prelude.{ℕ, slice_index}
-use Rattle.exact_algebra.specs.Fraction.{Fraction}
+use Rattle.rational_laws.specs.Fraction.{Fraction}
 use Rattle.loss_model.specs.declared.interval.End.{End}
 use Rattle.loss_model.specs.declared.process.Exchange.{Exchange}
 use Rattle.loss_model.specs.declared.spill.Spill.{Spill}
 use Rattle.loss_model.specs.Problem.{sample}
 use Rattle.basis_inverse.specs.Square.{inverse_entry}
-use Rattle.walk_rule.specs.Walks.{IsWalkingStep}
-use Rattle.walk_rule.specs.WalkTrails.{is_within}
+use Rattle.walk_model.specs.Walks.{IsWalkingStep}
+use Rattle.walk_model.specs.WalkTrails.{is_within}
 use Rattle.fraction_tableau.specs.Kept.{Kept}
-use Rattle.rank_walk.specs.Ends.{IsEndAt}
+use Rattle.rank_walk_model.specs.Ends.{IsEndAt}
 use Rattle.rank_inversion.specs.declared.course.Course.{Course}
 use Rattle.rank_tableau.specs.declared.outcome.Next.{Next}
 use Rattle.rank_tableau.specs.declared.outcome.Next.TheVariants.{Step, End as Ended}

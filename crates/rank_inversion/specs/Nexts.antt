@@ -1,7 +1,7 @@
 -- Inner. What is left at a basis on a walk.
 use Rattle.std.specs.Prelude.{◌≡◌, ℕ, ◌<◌, false, List, length}
-use Rattle.exact_algebra.specs.Fraction.{Fraction, rational}
-use Rattle.exact_algebra.specs.Rational.{ℚ, ◌+ℚ◌, ◌*ℚ◌, ◌≤ℚ◌}
+use Rattle.rational_laws.specs.Fraction.{Fraction, rational}
+use Rattle.rational_laws.specs.Rational.{ℚ, ◌+ℚ◌, ◌*ℚ◌, ◌≤ℚ◌}
 use Rattle.frac_core.specs.declared.exact.OpKind.TheVariants.{Div}
 use Rattle.loss_model.specs.declared.spill.Quantity.TheVariants.{DualValue, Ray}
 use Rattle.loss_model.specs.declared.spill.Spill.{Spill}
@@ -9,9 +9,9 @@ use Rattle.loss_model.specs.Spill.{IsOperation, IsTermSpill, site_of}
 use Rattle.loss_model.specs.Problem.{value_at}
 use Rattle.loss_model.specs.Strict.{◌<ℚ◌}
 use Rattle.basis_model.specs.Basis.{dual_value}
-use Rattle.pivot_rule.specs.Steps.{moves}
-use Rattle.walk_rule.specs.Walks.{IsNextBreak, IsWalkingStep}
-use Rattle.walk_rule.specs.WalkTrails.{is_within}
+use Rattle.pivot_model.specs.Steps.{moves}
+use Rattle.walk_model.specs.Walks.{IsNextBreak, IsWalkingStep}
+use Rattle.walk_model.specs.WalkTrails.{is_within}
 use Rattle.fraction_tableau.specs.declared.crossings.Breakpoint.{Breakpoint}
 use Rattle.rank_tableau.specs.declared.finding.Finding.{Finding}
 use Rattle.rank_tableau.specs.declared.finding.Finding.TheVariants.{Step, Past, Stuck}

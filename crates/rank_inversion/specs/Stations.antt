@@ -1,7 +1,7 @@
 -- Inner. A basis on a walk, and what stands there.
 use Rattle.std.specs.Prelude.{ℕ, ◌<◌, slice_index}
-use Rattle.exact_algebra.specs.Fraction.{Fraction}
-use Rattle.exact_algebra.specs.Rational.{ℚ, ◌-ℚ◌}
+use Rattle.rational_laws.specs.Fraction.{Fraction}
+use Rattle.rational_laws.specs.Rational.{ℚ, ◌-ℚ◌}
 use Rattle.frac_core.specs.declared.exact.OpKind.TheVariants.{Sub, Div}
 use Rattle.loss_model.specs.declared.spill.Spill.{Spill}
 use Rattle.loss_model.specs.Sample.{Sample}
@@ -9,12 +9,12 @@ use Rattle.loss_model.specs.Problem.{sample}
 use Rattle.basis_inverse.specs.Square.{inverse_entry}
 use Rattle.basis_model.specs.Basis.{dual_value}
 use Rattle.basic_solution.specs.Solutions.{IsSolution}
-use Rattle.pivot_rule.specs.declared.direction.Direction.{Direction}
-use Rattle.pivot_rule.specs.Spills.{IsCostSpill}
-use Rattle.walk_rule.specs.WalkSpills.{IsCrossingOperation}
+use Rattle.pivot_model.specs.declared.direction.Direction.{Direction}
+use Rattle.pivot_model.specs.Spills.{IsCostSpill}
+use Rattle.walk_model.specs.WalkSpills.{IsCrossingOperation}
 use Rattle.fraction_tableau.specs.Kept.{IsKept, place}
 use Rattle.fraction_tableau.specs.Standing.{AreDuals}
-use Rattle.rank_walk.specs.Crossings.{bound_towards}
+use Rattle.rank_walk_model.specs.Crossings.{bound_towards}
 use Rattle.rank_inversion.specs.declared.station.Station.{Station}
 use Rattle.rank_inversion.specs.Courses.{tau_of, Moves}
 

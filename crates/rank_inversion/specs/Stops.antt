@@ -1,7 +1,7 @@
 -- Stated. Why a rank interval stops: the trail at each moment, and the operation that overflows there.
 use Rattle.std.specs.Prelude.{◌≡◌, ◌⊎◌, ℕ, ◌<◌, ◌+◌, ◌≤◌, false, List, [], length, slice_index, pos}
-use Rattle.exact_algebra.specs.Fraction.{Fraction}
-use Rattle.exact_algebra.specs.Rational.{ℚ, ◌*ℚ◌, whole, ◌≤ℚ◌}
+use Rattle.rational_laws.specs.Fraction.{Fraction}
+use Rattle.rational_laws.specs.Rational.{ℚ, ◌*ℚ◌, whole, ◌≤ℚ◌}
 use Rattle.frac_core.specs.declared.exact.OpKind.TheVariants.{Div}
 use Rattle.loss_model.specs.declared.problem.Problem.{Problem}
 use Rattle.loss_model.specs.declared.process.Exchange.{Exchange}
@@ -14,16 +14,16 @@ use Rattle.loss_model.specs.Sample.{Sample}
 use Rattle.loss_model.specs.Problem.{sample}
 use Rattle.loss_model.specs.Spill.{IsOperation, site_of}
 use Rattle.loss_model.specs.StartStop.{IsStartSpill, IsDependent}
-use Rattle.pivot_rule.specs.declared.direction.Direction.{Direction}
-use Rattle.pivot_rule.specs.Steps.{moves}
-use Rattle.pivot_rule.specs.Trails.{AtBasis, basis_after}
-use Rattle.walk_rule.specs.Walks.{IsNextBreak}
-use Rattle.walk_rule.specs.WalkTrails.{value_after, is_within, IsIntervalTrail, HasRisen, ReachesIntervalLimit}
-use Rattle.walk_rule.specs.WalkSpills.{IsTestedSpill}
-use Rattle.rank_law.specs.Restricted.{IsProjection, squared_length, rank_bound}
-use Rattle.rank_walk.specs.RankWalks.{Way, rise, fall, tested}
-use Rattle.rank_walk.specs.Crossings.{parameter_of}
-use Rattle.rank_walk.specs.Intervals.{when_on}
+use Rattle.pivot_model.specs.declared.direction.Direction.{Direction}
+use Rattle.pivot_model.specs.Steps.{moves}
+use Rattle.pivot_model.specs.Trails.{AtBasis, basis_after}
+use Rattle.walk_model.specs.Walks.{IsNextBreak}
+use Rattle.walk_model.specs.WalkTrails.{value_after, is_within, IsIntervalTrail, HasRisen, ReachesIntervalLimit}
+use Rattle.walk_model.specs.WalkSpills.{IsTestedSpill}
+use Rattle.rank_model.specs.Restricted.{IsProjection, squared_length, rank_bound}
+use Rattle.rank_walk_model.specs.RankWalks.{Way, rise, fall, tested}
+use Rattle.rank_walk_model.specs.Crossings.{parameter_of}
+use Rattle.rank_walk_model.specs.Intervals.{when_on}
 use Rattle.br_pivot.specs.Solves.{IsSolveSpill}
 use Rattle.rank_inversion.specs.GramStops.{IsGramSpillAfter, IsTestSpillAfter}
 

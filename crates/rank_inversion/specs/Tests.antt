@@ -1,11 +1,11 @@
 -- Inner. The test of a column, as it is made.
 use Rattle.std.specs.Prelude.{◌≡◌, length, pos}
-use Rattle.exact_algebra.specs.Fraction.{Fraction, rational}
-use Rattle.exact_algebra.specs.Rational.{whole}
+use Rattle.rational_laws.specs.Fraction.{Fraction, rational}
+use Rattle.rational_laws.specs.Rational.{whole}
 use Rattle.loss_model.specs.declared.problem.Problem.{Problem}
 use Rattle.loss_model.specs.Problem.{value_at, sample}
 use Rattle.loss_model.specs.Strict.{◌<ℚ◌}
-use Rattle.rank_law.specs.Restricted.{IsProjection, squared_length, rank_bound}
+use Rattle.rank_model.specs.Restricted.{IsProjection, squared_length, rank_bound}
 use Rattle.rank_inversion.specs.declared.column_test.Asked.{Asked}
 use Rattle.rank_inversion.specs.declared.column_test.RankTest.{RankTest}
 

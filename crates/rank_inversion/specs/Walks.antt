@@ -1,7 +1,7 @@
 -- Inner. A walk of a tested value: how it begins, goes on, and ends.
 use Rattle.std.specs.Prelude.{◌≡◌, ◌++◌, ◌∷◌, [], ◌≤◌, ℕ, List, length, slice_index, slice_set, Option, Some, None, pos}
-use Rattle.exact_algebra.specs.Fraction.{Fraction, rational}
-use Rattle.exact_algebra.specs.Rational.{whole}
+use Rattle.rational_laws.specs.Fraction.{Fraction, rational}
+use Rattle.rational_laws.specs.Rational.{whole}
 use Rattle.loss_model.specs.declared.interval.End.{End}
 use Rattle.loss_model.specs.declared.problem.Problem.{Problem}
 use Rattle.loss_model.specs.declared.process.Exchange.{Exchange}
@@ -11,12 +11,12 @@ use Rattle.loss_model.specs.declared.spill.Short.TheVariants.{OutOfMemory as NoM
 use Rattle.loss_model.specs.Problem.{sample}
 use Rattle.loss_model.specs.Quantities.{IsShortOf}
 use Rattle.basis_inverse.specs.Square.{inverse_entry}
-use Rattle.pivot_rule.specs.Steps.{HasNoNegativeSlope}
-use Rattle.walk_rule.specs.WalkTrails.{AreWalkingSteps, HasStepAfter, is_within}
+use Rattle.pivot_model.specs.Steps.{HasNoNegativeSlope}
+use Rattle.walk_model.specs.WalkTrails.{AreWalkingSteps, HasStepAfter, is_within}
 use Rattle.fraction_tableau.specs.Kept.{IsKept}
-use Rattle.rank_walk.specs.Intervals.{when_on, IsWalked}
-use Rattle.rank_walk.specs.Loops.{IsWalking}
-use Rattle.rank_walk.specs.RankWalks.{tested}
+use Rattle.rank_walk_model.specs.Intervals.{when_on, IsWalked}
+use Rattle.rank_walk_model.specs.Loops.{IsWalking}
+use Rattle.rank_walk_model.specs.RankWalks.{tested}
 use Rattle.rank_inversion.specs.declared.course.Course.{Course}
 use Rattle.rank_inversion.specs.declared.walking.Walk.{Walk}
 use Rattle.rank_tableau.specs.declared.walking.Arrival.{Arrival}

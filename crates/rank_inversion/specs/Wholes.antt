@@ -1,7 +1,7 @@
 -- Inner. What rank intervals in whole numbers begin with, and both walks from there.
 use Rattle.std.specs.Prelude.{◌-◌, ℕ, length}
-use Rattle.exact_algebra.specs.Fraction.{Fraction}
-use Rattle.exact_algebra.specs.Rational.{ℚ}
+use Rattle.rational_laws.specs.Fraction.{Fraction}
+use Rattle.rational_laws.specs.Rational.{ℚ}
 use Rattle.loss_model.specs.declared.problem.Problem.{Problem}
 use Rattle.br_pivot.specs.Reached.{IsReached}
 use Rattle.whole_tableau.specs.Kept.{wholes_of}

@@ -1,6 +1,6 @@
 //! What is asked of a problem, and the work for one quantile and for one column.
 ghost use Rattle.std.specs.Prelude.{◌≡◌, IfErr, IfOk, IfSome, true};
-ghost use Rattle.exact_algebra.specs.Fraction.{rational};
+ghost use Rattle.rational_laws.specs.Fraction.{rational};
 ghost use Rattle.loss_model.specs.Problem.{IsWellShaped};
 ghost use Rattle.whole_tableau.specs.Kept.{IsSetting};
 ghost use Rattle.rank_inversion.specs.Inversions.{IsAskable};

@@ -1,8 +1,8 @@
 //! The test of a column: its projection on the others, and the bound on the square of its statistic.
 ghost use Rattle.std.specs.Prelude.{◌≡◌, ◌<◌, map, Some, IfOk, IfErr};
-ghost use Rattle.exact_algebra.specs.Fraction.{rational};
+ghost use Rattle.rational_laws.specs.Fraction.{rational};
 ghost use Rattle.loss_model.specs.Quantities.{IsShortOf};
-ghost use Rattle.rank_law.specs.Restricted.{rank_bound};
+ghost use Rattle.rank_model.specs.Restricted.{rank_bound};
 ghost use Rattle.rank_inversion.specs.GramStops.{IsInverted, IsGramTrail, IsBoundSpill, IsTestSpill, IsTestStop};
 ghost use Rattle.rank_inversion.specs.Tests.{IsTested};
 

@@ -1,12 +1,12 @@
 //! What is left at a basis on a walk: the walking step, or the end.
 ghost use Rattle.std.specs.Prelude.{◌≡◌, ◌≢◌, ℕ, ◌<◌, length, slice_index, Contains, IfOk, IfErr, pos};
-ghost use Rattle.exact_algebra.specs.Fraction.{rational};
-ghost use Rattle.exact_algebra.specs.Rational.{whole};
+ghost use Rattle.rational_laws.specs.Fraction.{rational};
+ghost use Rattle.rational_laws.specs.Rational.{whole};
 ghost use Rattle.loss_model.specs.Problem.{value_at};
 ghost use Rattle.loss_model.specs.Quantities.{IsShortOf};
 ghost use Rattle.loss_model.specs.Spill.{AtSome};
-ghost use Rattle.walk_rule.specs.Families.{IsOptimalIn};
-ghost use Rattle.rank_walk.specs.RankWalks.{ray};
+ghost use Rattle.walk_model.specs.Families.{IsOptimalIn};
+ghost use Rattle.rank_walk_model.specs.RankWalks.{ray};
 ghost use Rattle.rank_steps.specs.Ways.{way_of};
 ghost use Rattle.rank_inversion.specs.Courses.{parameter_at, family_of};
 ghost use Rattle.rank_inversion.specs.Stations.{IsStation, sample_at, rows_at, entries_at};

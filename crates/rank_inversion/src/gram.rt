@@ -5,7 +5,7 @@ ghost use Rattle.loss_model.specs.FullRank.{HasFullRank};
 ghost use Rattle.loss_model.specs.Problem.{sample, IsWellShaped};
 ghost use Rattle.loss_model.specs.Quantities.{IsShortOf};
 ghost use Rattle.loss_model.specs.StartStop.{IsStartStop};
-ghost use Rattle.rank_law.specs.Gram.{IsGramOf};
+ghost use Rattle.rank_model.specs.Gram.{IsGramOf};
 ghost use Rattle.rank_inversion.specs.Grams.{IsBeforeGram};
 ghost use Rattle.rank_inversion.specs.GramStops.{IsInverted, IsGramStop};
 
@@ -13,7 +13,7 @@ use basis_inverse::{Inverse, start};
 use frac_core::{Exact, List};
 use gram_matrix::gram_problem;
 use loss_model::{Basis, Problem, Short, Stop, Trail};
-use rank_law::laws;
+use rank_model::laws;
 use std::alloc::Global;
 use whole_rows::greedy_start;
 

@@ -1,7 +1,7 @@
 //! All rank intervals that are asked of a problem.
 ghost use Rattle.std.specs.Prelude.{◌≡◌, ◌<◌, All, length, map, IfOk, IfErr};
 ghost use Rattle.std.specs.List.{AllZip};
-ghost use Rattle.exact_algebra.specs.Fraction.{rational};
+ghost use Rattle.rational_laws.specs.Fraction.{rational};
 ghost use Rattle.frac_core.specs.Values.{value};
 ghost use Rattle.rank_inversion.specs.Jobs.{range};
 ghost use Rattle.rank_inversion.specs.Answers.{IsIntervalAnswer, IsStart, IsStartedAt};

@@ -15,7 +15,7 @@
 //!
 //! The crate stands on `br_pivot` for the solve, on `rank_tableau`
 //! for the walks in whole numbers and on the basis of `fraction_tableau` for those in fractions, on the laws of
-//! `rank_walk`, and on `rq_fan` for its jobs.
+//! `rank_walk_model`, and on `rq_fan` for its jobs.
 //!
 //! `rq_engine` calls it so:
 //! ```text

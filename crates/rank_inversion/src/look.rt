@@ -1,13 +1,13 @@
 //! What is left at a basis on a walk, with the end that is handed out.
 ghost use Rattle.std.specs.Prelude.{◌≡◌, ℕ, ◌<◌, ◌≤◌, length, slice_index, IfOk, IfErr};
-ghost use Rattle.exact_algebra.specs.Fraction.{rational};
-ghost use Rattle.exact_algebra.specs.Rational.{◌+ℚ◌, ◌*ℚ◌};
+ghost use Rattle.rational_laws.specs.Fraction.{rational};
+ghost use Rattle.rational_laws.specs.Rational.{◌+ℚ◌, ◌*ℚ◌};
 ghost use Rattle.frac_core.specs.Limits.{most_columns};
 ghost use Rattle.loss_model.specs.Problem.{value_at, sample};
 ghost use Rattle.loss_model.specs.Quantities.{IsShortOf};
 ghost use Rattle.basis_inverse.specs.Square.{inverse_entry};
-ghost use Rattle.pivot_rule.specs.Results.{IsVertexAt};
-ghost use Rattle.walk_rule.specs.Families.{IsOptimalIn};
+ghost use Rattle.pivot_model.specs.Results.{IsVertexAt};
+ghost use Rattle.walk_model.specs.Families.{IsOptimalIn};
 ghost use Rattle.fraction_tableau.specs.Next.{IsDualFault};
 ghost use Rattle.rank_tableau.specs.declared.finding.Finding.TheVariants.{Past, Stuck};
 ghost use Rattle.rank_inversion.specs.Courses.{parameter_at, family_of};

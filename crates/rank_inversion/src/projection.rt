@@ -1,14 +1,14 @@
 //! The projection of a column on the others.
 ghost use Rattle.std.specs.Prelude.{◌≡◌, ◌≢◌, ℕ, ◌<◌, length, pos, IfOk, IfErr};
-ghost use Rattle.exact_algebra.specs.Fraction.{rational};
-ghost use Rattle.exact_algebra.specs.Rational.{inverse as reciprocal, whole};
+ghost use Rattle.rational_laws.specs.Fraction.{rational};
+ghost use Rattle.rational_laws.specs.Rational.{inverse as reciprocal, whole};
 ghost use Rattle.loss_model.specs.Strict.{◌<ℚ◌};
 ghost use Rattle.loss_model.specs.Problem.{value_at, sample};
 ghost use Rattle.loss_model.specs.Quantities.{IsShortOf};
 ghost use Rattle.loss_model.specs.Spill.{AtSome};
 ghost use Rattle.basis_inverse.specs.Square.{inverse_entry};
-ghost use Rattle.rank_law.specs.Restricted.{IsProjection, squared_length};
-ghost use Rattle.rank_law.specs.Gram.{projection_of};
+ghost use Rattle.rank_model.specs.Restricted.{IsProjection, squared_length};
+ghost use Rattle.rank_model.specs.Gram.{projection_of};
 ghost use Rattle.rank_inversion.specs.Grams.{IsGramInverse, IsLengthSpill, IsFactorSpill, IsProjectingSpill};
 
 use basis_inverse::Inverse;

@@ -1,13 +1,13 @@
 //! A basis on a walk, and the next breakpoint there.
 ghost use Rattle.std.specs.Prelude.{◌≡◌, ◌<◌, Bool, ℕ, length, IfOk, IfErr};
-ghost use Rattle.exact_algebra.specs.Fraction.{rational};
-ghost use Rattle.exact_algebra.specs.Rational.{ℚ};
+ghost use Rattle.rational_laws.specs.Fraction.{rational};
+ghost use Rattle.rational_laws.specs.Rational.{ℚ};
 ghost use Rattle.loss_model.specs.Spill.{AtSome};
-ghost use Rattle.pivot_rule.specs.Spills.{direction_number, IsCostSpill};
-ghost use Rattle.walk_rule.specs.Families.{IsOptimalIn};
-ghost use Rattle.walk_rule.specs.Walks.{IsNextBreak};
+ghost use Rattle.pivot_model.specs.Spills.{direction_number, IsCostSpill};
+ghost use Rattle.walk_model.specs.Families.{IsOptimalIn};
+ghost use Rattle.walk_model.specs.Walks.{IsNextBreak};
 ghost use Rattle.fraction_tableau.specs.Crossings.{IsCrossingAt, IsFirstOf};
-ghost use Rattle.rank_walk.specs.Crossings.{bound_towards};
+ghost use Rattle.rank_walk_model.specs.Crossings.{bound_towards};
 ghost use Rattle.rank_steps.specs.Ways.{way_of, direction_for, IsDirectionBy};
 ghost use Rattle.rank_inversion.specs.Courses.{tau_of, parameter_at, family_of, Moves, crossing_at};
 ghost use Rattle.rank_inversion.specs.Stations.{IsStation, sample_at, rows_at, entries_at, IsMeetingSpill};
@@ -17,7 +17,7 @@ use basic_solution::BasicSolution;
 use frac_core::{Exact, List};
 use fraction_tableau::{Breakpoint, FractionTableau, sooner};
 use loss_model::{Quantity, Site, Spill, minus_at, over_at};
-use pivot_rule::Direction;
+use pivot_model::Direction;
 use rank_steps::{Way, direction_of};
 
 /// A basis on a walk, its basic solution, and its dual values at the quantile of the walk, by position.

@@ -2,8 +2,8 @@
 ghost use Rattle.std.specs.Prelude.{◌<◌, ◌≡◌, ℕ, length, slice_index, IfOk, IfErr, OnOk};
 ghost use Rattle.loss_model.specs.Problem.{sample};
 ghost use Rattle.basis_inverse.specs.Square.{inverse_entry};
-ghost use Rattle.pivot_rule.specs.Duals.{HasCosts};
-ghost use Rattle.walk_rule.specs.Families.{IsOptimalIn};
+ghost use Rattle.pivot_model.specs.Duals.{HasCosts};
+ghost use Rattle.walk_model.specs.Families.{IsOptimalIn};
 ghost use Rattle.rank_inversion.specs.Courses.{tau_of, parameter_at, family_of};
 ghost use Rattle.rank_inversion.specs.Looks.{IsStepAt};
 ghost use Rattle.rank_inversion.specs.Walks.{IsBegun, IsAdvanced, IsAdvancedOrEnded, IsKeptShort, IsEnded, IsHalted, IsHaltOf};

@@ -2,9 +2,9 @@
 //!
 //! Nothing is said of what is refused: whoever asks goes on in fractions, which name the cause.
 ghost use Rattle.std.specs.Prelude.{IfSome};
-ghost use Rattle.exact_algebra.specs.Fraction.{rational};
+ghost use Rattle.rational_laws.specs.Fraction.{rational};
 ghost use Rattle.loss_model.specs.Problem.{sample, IsWellShaped};
-ghost use Rattle.pivot_rule.specs.Duals.{HasCosts};
+ghost use Rattle.pivot_model.specs.Duals.{HasCosts};
 ghost use Rattle.whole_tableau.specs.Kept.{IsSetting};
 ghost use Rattle.rank_inversion.specs.Intervals.{IsRankInterval};
 ghost use Rattle.rank_inversion.specs.Inversions.{IsAskable};

@@ -1,9 +1,9 @@
 -- Inner. The crossings of a station on a walk of a tested value.
 use Rattle.std.specs.Prelude.{ℕ, ◌<◌, length}
-use Rattle.exact_algebra.specs.Rational.{ℚ, ◌-ℚ◌, ◌*ℚ◌, inverse}
+use Rattle.rational_laws.specs.Rational.{ℚ, ◌-ℚ◌, ◌*ℚ◌, inverse}
 use Rattle.basis_model.specs.Basis.{dual_value}
-use Rattle.pivot_rule.specs.declared.direction.Direction.{Direction}
-use Rattle.rank_walk.specs.Crossings.{parameter_of, bound_towards, IsMoving}
+use Rattle.pivot_model.specs.declared.direction.Direction.{Direction}
+use Rattle.rank_walk_model.specs.Crossings.{parameter_of, bound_towards, IsMoving}
 use Rattle.whole_steps.specs.declared.station.Station.{Station}
 use Rattle.whole_steps.specs.Stations.{model, at_of, inverse_at}
 use Rattle.whole_steps.specs.Quantiles.{IsQuantile, theta_of}

@@ -4,7 +4,7 @@
 //! the problem in whole numbers, or refuses. What a dual value misses to its bound is a number over the determinant and the
 //! quantile's second part, and its speed is a numerator of the inverse, so a crossing is a quotient of two whole numbers from
 //! which the determinant has gone; crossings are compared by cross products. `entering_row` asks the rows near the
-//! fit first. It stands on `whole_steps` for what stands at the basis, and on `rank_walk` for the walks.
+//! fit first. It stands on `whole_steps` for what stands at the basis, and on `rank_walk_model` for the walks.
 //!
 //! `rank_tableau` calls both so:
 //! ```text

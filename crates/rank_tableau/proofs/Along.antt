@@ -1,29 +1,29 @@
 -- How a walk in whole numbers begins, goes on and ends.
 use Rattle.std.specs.Prelude.{◌≡◌, ◌<◌, ◌≤◌, ◌++◌, ◌∷◌, [], ℕ, List, length, slice_index, slice_set, pos}
 use Rattle.std.proofs.Common.{refl, sym, ap, subst, ◌∙◌}
-use Rattle.exact_algebra.specs.Fraction.{Fraction, rational}
-use Rattle.exact_algebra.specs.Solver.{number, negated}
-use Rattle.exact_algebra.specs.Rational.{ℚ, neg_ℚ, ◌*ℚ◌, inverse, whole}
-use Rattle.exact_algebra.proofs.RationalLaws.{ring_ℚ}
-use Rattle.exact_matrices.specs.Exchange.{exchanged}
+use Rattle.rational_laws.specs.Fraction.{Fraction, rational}
+use Rattle.rational_laws.specs.Solver.{number, negated}
+use Rattle.rational_laws.specs.Rational.{ℚ, neg_ℚ, ◌*ℚ◌, inverse, whole}
+use Rattle.rational_laws.proofs.RationalLaws.{ring_ℚ}
+use Rattle.rational_laws.specs.Exchange.{exchanged}
 use Rattle.loss_model.specs.declared.interval.End.{End}
 use Rattle.loss_model.specs.declared.problem.Problem.{Problem}
 use Rattle.loss_model.specs.declared.process.Exchange.{Exchange}
 use Rattle.loss_model.specs.Problem.{sample}
 use Rattle.basis_model.specs.Basis.{IsBasis}
-use Rattle.pivot_rule.specs.Duals.{HasCosts}
-use Rattle.pivot_rule.specs.Steps.{HasNoNegativeSlope}
-use Rattle.pivot_rule.specs.Trails.{EndsAt}
-use Rattle.pivot_rule.proofs.Unique.{same_inverse}
-use Rattle.walk_rule.specs.Families.{IsOptimalIn}
-use Rattle.walk_rule.specs.Walks.{IsWalkingStep}
-use Rattle.walk_rule.specs.WalkTrails.{is_within}
-use Rattle.rank_walk.specs.Ends.{IsEndAt}
-use Rattle.rank_walk.specs.Intervals.{when_on}
-use Rattle.rank_walk.specs.Loops.{IsWalking}
-use Rattle.rank_walk.specs.RankWalks.{Way, rise, fall, tested}
-use Rattle.rank_walk.specs.Crossings.{parameter_of}
-use Rattle.rank_walk.proofs.Loops as loop
+use Rattle.pivot_model.specs.Duals.{HasCosts}
+use Rattle.pivot_model.specs.Steps.{HasNoNegativeSlope}
+use Rattle.pivot_model.specs.Trails.{EndsAt}
+use Rattle.pivot_model.proofs.Unique.{same_inverse}
+use Rattle.walk_model.specs.Families.{IsOptimalIn}
+use Rattle.walk_model.specs.Walks.{IsWalkingStep}
+use Rattle.walk_model.specs.WalkTrails.{is_within}
+use Rattle.rank_walk_model.specs.Ends.{IsEndAt}
+use Rattle.rank_walk_model.specs.Intervals.{when_on}
+use Rattle.rank_walk_model.specs.Loops.{IsWalking}
+use Rattle.rank_walk_model.specs.RankWalks.{Way, rise, fall, tested}
+use Rattle.rank_walk_model.specs.Crossings.{parameter_of}
+use Rattle.rank_walk_model.proofs.Loops as loop
 use Rattle.whole_inverse.specs.Shares.{share}
 use Rattle.whole_tableau.specs.declared.setting.Setting.{Setting}
 use Rattle.whole_tableau.specs.Kept.{IsKept, place}

@@ -1,14 +1,14 @@
 -- The test of a column, by the factors over its whole rows.
 use Rattle.std.specs.Prelude.{◌≡◌, ◌≢◌, ℕ, ◌<◌, ◌≤◌, List, length, Option, Some, None, IfSome, pos}
 use Rattle.std.proofs.Common.{refl}
-use Rattle.exact_algebra.specs.Fraction.{Fraction}
-use Rattle.exact_algebra.specs.Rational.{ℚ, whole}
+use Rattle.rational_laws.specs.Fraction.{Fraction}
+use Rattle.rational_laws.specs.Rational.{ℚ, whole}
 use Rattle.loss_model.specs.Problem.{sample, value_at}
 use Rattle.loss_model.specs.Sample.{Sample}
 use Rattle.loss_model.specs.Strict.{◌<ℚ◌}
-use Rattle.rank_law.specs.Restricted.{IsProjection, squared_length, rank_bound}
+use Rattle.rank_model.specs.Restricted.{IsProjection, squared_length, rank_bound}
 use Rattle.whole_inverse.specs.Shares.{share}
-use Rattle.scaled_model.specs.Scaled.{IsScaled}
+use Rattle.whole_rows.specs.Scaled.{IsScaled}
 use Rattle.whole_rows.specs.Wholes.{factor_at, factor_value}
 use Rattle.whole_tableau.specs.Kept.{Kept, wholes_of}
 use Rattle.gram_check.specs.Laws.{unscaled_factors}

@@ -3,23 +3,23 @@ use Rattle.std.specs.Prelude.{◌≡◌, ℕ, ◌*◌, ◌<◌, ◌≤◌, true,
 use Rattle.std.specs.Ordering.{nat_cmp, is_gt}
 use Rattle.std.proofs.Common.{arith, sym, ap, subst, ◌∙◌}
 use Rattle.std.proofs.lemmas.Int.{ints}
-use Rattle.exact_algebra.specs.Fraction.{Fraction, rational}
-use Rattle.exact_algebra.specs.Rational.{ℚ, ◌-ℚ◌, ◌*ℚ◌, inverse, whole, ◌≤ℚ◌}
+use Rattle.rational_laws.specs.Fraction.{Fraction, rational}
+use Rattle.rational_laws.specs.Rational.{ℚ, ◌-ℚ◌, ◌*ℚ◌, inverse, whole, ◌≤ℚ◌}
 use Rattle.loss_model.specs.declared.process.Exchange.{Exchange}
 use Rattle.loss_model.specs.Sample.{Sample}
 use Rattle.loss_model.specs.Problem.{sample}
 use Rattle.basis_model.specs.Basis.{dual_value}
-use Rattle.pivot_rule.specs.Steps.{moves}
-use Rattle.walk_rule.specs.Families.{IsOptimalIn}
-use Rattle.pivot_rule.specs.declared.direction.Direction.{Direction}
-use Rattle.walk_rule.specs.Walks.{IsNextBreak, IsFirstMover, IsWalkingStep}
-use Rattle.rank_walk.specs.RankWalks.{Way, rise, fall, tested}
-use Rattle.walk_rule.specs.WalkTrails.{is_within}
-use Rattle.rank_walk.specs.Crossings.{parameter_of, bound_towards, IsMoving}
+use Rattle.pivot_model.specs.Steps.{moves}
+use Rattle.walk_model.specs.Families.{IsOptimalIn}
+use Rattle.pivot_model.specs.declared.direction.Direction.{Direction}
+use Rattle.walk_model.specs.Walks.{IsNextBreak, IsFirstMover, IsWalkingStep}
+use Rattle.rank_walk_model.specs.RankWalks.{Way, rise, fall, tested}
+use Rattle.walk_model.specs.WalkTrails.{is_within}
+use Rattle.rank_walk_model.specs.Crossings.{parameter_of, bound_towards, IsMoving}
 use Rattle.fraction_tableau.specs.declared.crossings.Breakpoint.{Breakpoint}
 use Rattle.fraction_tableau.specs.Crossings.{IsFirst}
-use Rattle.scaled_model.specs.Scaled.{unscaled}
-use Rattle.scaled_model.proofs.StepLaws.{moves-scaled}
+use Rattle.whole_rows.specs.Scaled.{unscaled}
+use Rattle.whole_rows.proofs.StepLaws.{moves-scaled}
 use Rattle.whole_inverse.specs.Squares.{inverse_of}
 use Rattle.whole_rows.specs.declared.factor.Factor.{Factor}
 use Rattle.whole_rows.specs.declared.rows.WholeRow.{WholeRow}

@@ -1,11 +1,11 @@
 -- Inner. What a walk in whole numbers hands out at its end.
 use Rattle.std.specs.Prelude.{◌≡◌, ℕ, ◌<◌, ◌*ℤ◌, List, length}
-use Rattle.exact_algebra.specs.Fraction.{Fraction, rational}
-use Rattle.exact_algebra.specs.Rational.{ℚ, ◌+ℚ◌, ◌*ℚ◌}
+use Rattle.rational_laws.specs.Fraction.{Fraction, rational}
+use Rattle.rational_laws.specs.Rational.{ℚ, ◌+ℚ◌, ◌*ℚ◌}
 use Rattle.loss_model.specs.declared.interval.End.{End}
 use Rattle.loss_model.specs.Problem.{value_at}
 use Rattle.basis_model.specs.Basis.{dual_value}
-use Rattle.rank_walk.specs.Ends.{IsEndAt}
+use Rattle.rank_walk_model.specs.Ends.{IsEndAt}
 use Rattle.tableau_model.specs.Places.{Place, at_of, sample_of}
 use Rattle.whole_rows.specs.declared.factor.Factor.{Factor}
 use Rattle.whole_rows.specs.Wholes.{factor_value}

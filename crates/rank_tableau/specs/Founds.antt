@@ -1,16 +1,16 @@
 -- Inner. What is left at a basis on a walk of a tested value.
 use Rattle.std.specs.Prelude.{◌≡◌, ℕ, ◌<◌, false, length, pos}
-use Rattle.exact_algebra.specs.Fraction.{Fraction, rational}
-use Rattle.exact_algebra.specs.Rational.{ℚ, ◌-ℚ◌, ◌*ℚ◌, inverse, ◌≤ℚ◌}
+use Rattle.rational_laws.specs.Fraction.{Fraction, rational}
+use Rattle.rational_laws.specs.Rational.{ℚ, ◌-ℚ◌, ◌*ℚ◌, inverse, ◌≤ℚ◌}
 use Rattle.loss_model.specs.Sample.{Sample}
 use Rattle.loss_model.specs.Strict.{◌<ℚ◌}
-use Rattle.pivot_rule.specs.Steps.{moves}
-use Rattle.walk_rule.specs.Families.{Family}
-use Rattle.walk_rule.specs.Walks.{IsNextBreak, IsWalkingStep}
-use Rattle.walk_rule.specs.WalkTrails.{is_within}
-use Rattle.rank_walk.specs.RankWalks.{tested}
+use Rattle.pivot_model.specs.Steps.{moves}
+use Rattle.walk_model.specs.Families.{Family}
+use Rattle.walk_model.specs.Walks.{IsNextBreak, IsWalkingStep}
+use Rattle.walk_model.specs.WalkTrails.{is_within}
+use Rattle.rank_walk_model.specs.RankWalks.{tested}
 use Rattle.basis_model.specs.Basis.{dual_value}
-use Rattle.rank_walk.specs.Crossings.{parameter_of, bound_towards, IsMoving}
+use Rattle.rank_walk_model.specs.Crossings.{parameter_of, bound_towards, IsMoving}
 use Rattle.tableau_model.specs.Places.{Place, at_of, sample_of}
 use Rattle.fraction_tableau.specs.declared.crossings.Breakpoint.{Breakpoint}
 use Rattle.fraction_tableau.specs.Crossings.{IsFirst}

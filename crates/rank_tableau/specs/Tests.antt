@@ -1,10 +1,10 @@
 -- Inner. The test of a column.
 use Rattle.std.specs.Prelude.{◌≡◌, ℕ, ◌<◌, ◌≤◌, List, length, Option, IfSome, pos}
-use Rattle.exact_algebra.specs.Fraction.{Fraction}
-use Rattle.exact_algebra.specs.Rational.{ℚ, whole}
+use Rattle.rational_laws.specs.Fraction.{Fraction}
+use Rattle.rational_laws.specs.Rational.{ℚ, whole}
 use Rattle.loss_model.specs.Problem.{sample, value_at}
 use Rattle.loss_model.specs.Strict.{◌<ℚ◌}
-use Rattle.rank_law.specs.Restricted.{IsProjection, squared_length, rank_bound}
+use Rattle.rank_model.specs.Restricted.{IsProjection, squared_length, rank_bound}
 use Rattle.whole_tableau.specs.Kept.{Kept}
 use Rattle.rank_tableau.specs.Founds.{bound_by}
 use Rattle.rank_tableau.specs.declared.testing.ColumnTest.{ColumnTest}

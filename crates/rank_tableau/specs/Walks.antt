@@ -1,16 +1,16 @@
 -- Inner. A walk of a tested value in whole numbers: how it goes on, and ends.
 use Rattle.std.specs.Prelude.{◌≡◌, ◌++◌, ◌∷◌, [], ◌≤◌, ℕ, List, length, slice_index, slice_set, unwrap_or, Option, Some, None, pos}
-use Rattle.exact_algebra.specs.Fraction.{Fraction, rational}
-use Rattle.exact_algebra.specs.Rational.{ℚ, whole}
+use Rattle.rational_laws.specs.Fraction.{Fraction, rational}
+use Rattle.rational_laws.specs.Rational.{ℚ, whole}
 use Rattle.loss_model.specs.declared.interval.End.{End}
 use Rattle.loss_model.specs.declared.problem.Problem.{Problem}
 use Rattle.loss_model.specs.declared.process.Exchange.{Exchange}
 use Rattle.loss_model.specs.Problem.{sample}
-use Rattle.walk_rule.specs.Walks.{IsWalkingStep}
-use Rattle.walk_rule.specs.WalkTrails.{AreWalkingSteps, is_within}
-use Rattle.rank_walk.specs.Intervals.{when_on, IsWalked}
-use Rattle.rank_walk.specs.Loops.{IsWalking}
-use Rattle.rank_walk.specs.RankWalks.{tested}
+use Rattle.walk_model.specs.Walks.{IsWalkingStep}
+use Rattle.walk_model.specs.WalkTrails.{AreWalkingSteps, is_within}
+use Rattle.rank_walk_model.specs.Intervals.{when_on, IsWalked}
+use Rattle.rank_walk_model.specs.Loops.{IsWalking}
+use Rattle.rank_walk_model.specs.RankWalks.{tested}
 use Rattle.whole_tableau.specs.Kept.{Kept, IsKept, place}
 use Rattle.rank_steps.specs.Ways.{way_of}
 use Rattle.rank_tableau.specs.declared.course.Course.{Course}

@@ -1,6 +1,6 @@
 //! The bound of the square of a rank statistic.
 ghost use Rattle.std.specs.Prelude.{◌≡◌, ◌*◌, ◌≤◌, ◌+ℤ◌, neg_ℤ, ◌≤ℤ◌, IfOk, pos};
-ghost use Rattle.rank_law.specs.Restricted.{rank_bound};
+ghost use Rattle.rank_model.specs.Restricted.{rank_bound};
 ghost use Rattle.whole_inverse.specs.Shares.{share};
 ghost use Rattle.whole_rows.specs.Wholes.{factor_value};
 

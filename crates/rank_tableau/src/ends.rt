@@ -1,7 +1,7 @@
 //! The dual values where the column weighs so much, as fractions.
 ghost use Rattle.std.specs.Prelude.{◌≡◌, ◌<◌, IfOk};
-ghost use Rattle.exact_algebra.specs.Fraction.{rational};
-ghost use Rattle.exact_algebra.specs.Rational.{◌*ℚ◌};
+ghost use Rattle.rational_laws.specs.Fraction.{rational};
+ghost use Rattle.rational_laws.specs.Rational.{◌*ℚ◌};
 ghost use Rattle.whole_rows.specs.Wholes.{factor_at, factor_value, IsPositive};
 ghost use Rattle.whole_steps.specs.Quantiles.{IsQuantile, theta_of};
 ghost use Rattle.whole_tableau.specs.Kept.{IsKept, place};

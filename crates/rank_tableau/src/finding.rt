@@ -1,8 +1,8 @@
 //! What is left at a basis on a walk: the walking step, or the next breakpoint where the walk ends.
 ghost use Rattle.std.specs.Prelude.{◌≡◌, ◌<◌, ◌≤◌, length, slice_index, IfOk};
-ghost use Rattle.exact_algebra.specs.Fraction.{rational};
+ghost use Rattle.rational_laws.specs.Fraction.{rational};
 ghost use Rattle.loss_model.specs.Problem.{sample};
-ghost use Rattle.walk_rule.specs.Families.{IsOptimalIn};
+ghost use Rattle.walk_model.specs.Families.{IsOptimalIn};
 ghost use Rattle.whole_rows.specs.Wholes.{factor_at, factor_value, IsPositive};
 ghost use Rattle.whole_tableau.specs.Kept.{IsKept, place};
 ghost use Rattle.whole_tableau.specs.Steps.{IsStationOf};

@@ -1,8 +1,8 @@
 //! What a walk comes to at a basis: the walking step, or the end that is handed out.
 ghost use Rattle.std.specs.Prelude.{◌≡◌, ℕ, ◌<◌, ◌≤◌, length, slice_index, Contains, IfOk};
-ghost use Rattle.exact_algebra.specs.Fraction.{rational};
+ghost use Rattle.rational_laws.specs.Fraction.{rational};
 ghost use Rattle.loss_model.specs.Problem.{sample, value_at};
-ghost use Rattle.walk_rule.specs.Families.{IsOptimalIn};
+ghost use Rattle.walk_model.specs.Families.{IsOptimalIn};
 ghost use Rattle.whole_rows.specs.Wholes.{factor_at, factor_value, IsPositive};
 ghost use Rattle.whole_tableau.specs.Kept.{IsKept, place};
 ghost use Rattle.rank_tableau.specs.declared.finding.Finding.TheVariants.{Past, Stuck};

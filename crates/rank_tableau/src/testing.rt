@@ -1,10 +1,10 @@
 //! The test of a column: the factors that project it on the others, and the bound of the square of its statistic.
 ghost use Rattle.std.specs.Prelude.{◌≡◌, ◌≢◌, ◌<◌, ◌≤◌, length, IfOk, pos};
-ghost use Rattle.exact_algebra.specs.Fraction.{rational};
-ghost use Rattle.exact_algebra.specs.Rational.{whole};
+ghost use Rattle.rational_laws.specs.Fraction.{rational};
+ghost use Rattle.rational_laws.specs.Rational.{whole};
 ghost use Rattle.loss_model.specs.Sample.{Sample};
 ghost use Rattle.loss_model.specs.Strict.{◌<ℚ◌};
-ghost use Rattle.rank_law.specs.Restricted.{IsProjection, squared_length, rank_bound};
+ghost use Rattle.rank_model.specs.Restricted.{IsProjection, squared_length, rank_bound};
 ghost use Rattle.whole_inverse.specs.Shares.{share, share_at};
 ghost use Rattle.whole_rows.specs.Wholes.{factor_at};
 ghost use Rattle.whole_tableau.specs.Kept.{IsKept, wholes_of};

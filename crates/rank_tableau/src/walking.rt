@@ -1,10 +1,10 @@
 //! A walk of a tested value in whole numbers, from the solved basis to its end.
 ghost use Rattle.std.specs.Prelude.{◌<◌, ◌≤◌, ◌≡◌, ℕ, [], length, slice_index, IfOk, OnOk};
-ghost use Rattle.exact_algebra.specs.Fraction.{rational};
+ghost use Rattle.rational_laws.specs.Fraction.{rational};
 ghost use Rattle.loss_model.specs.Problem.{sample};
-ghost use Rattle.pivot_rule.specs.Duals.{HasCosts};
-ghost use Rattle.pivot_rule.specs.Steps.{HasNoNegativeSlope};
-ghost use Rattle.walk_rule.specs.Families.{IsOptimalIn};
+ghost use Rattle.pivot_model.specs.Duals.{HasCosts};
+ghost use Rattle.pivot_model.specs.Steps.{HasNoNegativeSlope};
+ghost use Rattle.walk_model.specs.Families.{IsOptimalIn};
 ghost use Rattle.whole_tableau.specs.Kept.{IsKept, place};
 ghost use Rattle.rank_tableau.specs.Founds.{family_of, parameter_at, bound_by};
 ghost use Rattle.rank_tableau.specs.Walks.{here_of, IsAlong, IsStepAt, IsAdvanced, IsAdvancedOrEnded, IsEnded};

@@ -7,11 +7,11 @@ use Rattle.std.specs.Option.{option_map_or}
 use Rattle.std.proofs.lemmas.Bool.{ltb-false, ltb-true}
 use Rattle.std.proofs.lemmas.List.Sorted.{searched}
 use Rattle.std.proofs.lemmas.Option.{slice_get-get_or}
-use Rattle.exact_algebra.specs.Solver.{number, ◌⊞◌}
-use Rattle.exact_algebra.specs.Rational.{ℚ, ◌+ℚ◌, whole}
-use Rattle.exact_algebra.specs.Fraction.{Fraction, rational}
-use Rattle.exact_algebra.proofs.RationalLaws.{ring_ℚ}
-use Rattle.exact_algebra.proofs.RationalSumLaws.{sum_ℚ-next}
+use Rattle.rational_laws.specs.Solver.{number, ◌⊞◌}
+use Rattle.rational_laws.specs.Rational.{ℚ, ◌+ℚ◌, whole}
+use Rattle.rational_laws.specs.Fraction.{Fraction, rational}
+use Rattle.rational_laws.proofs.RationalLaws.{ring_ℚ}
+use Rattle.rational_laws.proofs.RationalSumLaws.{sum_ℚ-next}
 use Rattle.loss_model.specs.declared.problem.Problem.{Problem}
 use Rattle.loss_model.specs.declared.process.Segment.{Segment}
 use Rattle.loss_model.specs.Dual.{rankscore}

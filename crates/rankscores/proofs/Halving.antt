@@ -4,14 +4,14 @@ use Rattle.std.proofs.Common.{arith, refl, sym, subst}
 use Rattle.std.proofs.lemmas.Int.{ints}
 use mathlib.Core.Bool.{Bool-set}
 use mathlib.Core.HLevel.{Π_prop}
-use Rattle.exact_algebra.specs.Integers.{mul-le}
-use Rattle.exact_algebra.specs.Solver.{number, ◌⊠◌, v0, v1, v2}
-use Rattle.exact_algebra.specs.Rational.{ℚ, ◌+ℚ◌, ◌*ℚ◌, inverse, whole, quotient, le_ℚ, ◌≤ℚ◌}
-use Rattle.exact_algebra.proofs.OrderLaws.{inverse_not_negative, le_from_not, not_le}
-use Rattle.exact_algebra.proofs.Quotients.{by_quotient, denominator-times}
-use Rattle.exact_algebra.proofs.RationalLaws.{whole-add, whole-mul, ring_by_ℚ, *ℚ-inverse, ≤ℚ_mul, ≤ℚ_refl, ≤ℚ_trans}
-use Rattle.exact_algebra.proofs.WholeNumbers.{whole-le, le_from_whole}
-use Rattle.exact_algebra.proofs.Signs.{whole_not_negative}
+use Rattle.rational_laws.specs.Integers.{mul-le}
+use Rattle.rational_laws.specs.Solver.{number, ◌⊠◌, v0, v1, v2}
+use Rattle.rational_laws.specs.Rational.{ℚ, ◌+ℚ◌, ◌*ℚ◌, inverse, whole, quotient, le_ℚ, ◌≤ℚ◌}
+use Rattle.rational_laws.proofs.OrderLaws.{inverse_not_negative, le_from_not, not_le}
+use Rattle.rational_laws.proofs.Quotients.{by_quotient, denominator-times}
+use Rattle.rational_laws.proofs.RationalLaws.{whole-add, whole-mul, ring_by_ℚ, *ℚ-inverse, ≤ℚ_mul, ≤ℚ_refl, ≤ℚ_trans}
+use Rattle.rational_laws.proofs.WholeNumbers.{whole-le, le_from_whole}
+use Rattle.rational_laws.proofs.Signs.{whole_not_negative}
 
 -- ---- no fraction is above all whole numbers
 

@@ -1,13 +1,13 @@
 -- The integral of an affine function is the area of a trapezoid, and nothing else is.
 use Rattle.std.specs.Prelude.{◌≡◌, ℕ, zero, suc, ◌+◌, [], ◌∷◌, pos}
 use Rattle.std.proofs.Common.{arith, refl, sym, ap, ap₂, subst, ◌∙◌}
-use Rattle.exact_algebra.specs.Solver.{number, negated, ◌⊞◌, ◌⊟◌, ◌⊠◌, v0, v1, v2, v3, v4, v5, v6, v7}
-use Rattle.exact_algebra.specs.Rational.{ℚ, ◌+ℚ◌, ◌-ℚ◌, ◌*ℚ◌, neg_ℚ, inverse, whole, ◌≤ℚ◌}
-use Rattle.exact_algebra.specs.RationalSums.{positive_ℚ, negative_ℚ}
-use Rattle.exact_algebra.proofs.OrderLaws.{inverse_not_negative, le_from_not, ≤ℚ-minus, ≤ℚ_neg}
-use Rattle.exact_algebra.proofs.RationalLaws.{whole-add, ring_ℚ, ring_by_ℚ, *ℚ-inverse, ≤ℚ_antisym, ≤ℚ_mul, ≤ℚ_refl, ≤ℚ_trans}
-use Rattle.exact_algebra.proofs.RationalSumLaws.{parts_ℚ, ≤ℚ_add2, ≤ℚ_from}
-use Rattle.exact_algebra.proofs.Signs.{sum_not_negative, product_not_negative, whole_not_negative}
+use Rattle.rational_laws.specs.Solver.{number, negated, ◌⊞◌, ◌⊟◌, ◌⊠◌, v0, v1, v2, v3, v4, v5, v6, v7}
+use Rattle.rational_laws.specs.Rational.{ℚ, ◌+ℚ◌, ◌-ℚ◌, ◌*ℚ◌, neg_ℚ, inverse, whole, ◌≤ℚ◌}
+use Rattle.rational_laws.specs.RationalSums.{positive_ℚ, negative_ℚ}
+use Rattle.rational_laws.proofs.OrderLaws.{inverse_not_negative, le_from_not, ≤ℚ-minus, ≤ℚ_neg}
+use Rattle.rational_laws.proofs.RationalLaws.{whole-add, ring_ℚ, ring_by_ℚ, *ℚ-inverse, ≤ℚ_antisym, ≤ℚ_mul, ≤ℚ_refl, ≤ℚ_trans}
+use Rattle.rational_laws.proofs.RationalSumLaws.{parts_ℚ, ≤ℚ_add2, ≤ℚ_from}
+use Rattle.rational_laws.proofs.Signs.{sum_not_negative, product_not_negative, whole_not_negative}
 use Rattle.loss_model.specs.Strict.{◌<ℚ◌}
 use Rattle.loss_model.proofs.Quotients.{inverse_of}
 use Rattle.rankscores.specs.Integrals.{line, IsArea}

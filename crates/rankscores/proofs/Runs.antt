@@ -1,9 +1,9 @@
 -- Runs of segments along which a row lies above the fit, and the cross product of one segment.
 use Rattle.std.proofs.Common.{◌≡◌, ℕ, Option, None, Some, IfSome, MatchOption, slice_get, [], ◌∷◌, pos, refl, sym, ap, ap₂, ◌∙◌}
-use Rattle.exact_algebra.specs.Solver.{number, ◌⊞◌, ◌⊟◌, ◌⊠◌, v0, v1, v2, v3}
-use Rattle.exact_algebra.specs.Fraction.{Fraction, rational}
-use Rattle.exact_algebra.specs.Rational.{ℚ, ◌+ℚ◌, ◌-ℚ◌, whole}
-use Rattle.exact_algebra.proofs.RationalLaws.{ring_ℚ}
+use Rattle.rational_laws.specs.Solver.{number, ◌⊞◌, ◌⊟◌, ◌⊠◌, v0, v1, v2, v3}
+use Rattle.rational_laws.specs.Fraction.{Fraction, rational}
+use Rattle.rational_laws.specs.Rational.{ℚ, ◌+ℚ◌, ◌-ℚ◌, whole}
+use Rattle.rational_laws.proofs.RationalLaws.{ring_ℚ}
 use Rattle.loss_model.specs.declared.problem.Problem.{Problem}
 use Rattle.loss_model.specs.declared.process.Segment.{Segment}
 use Rattle.loss_model.specs.declared.vertex.Side.TheVariants.{Up, Down}

@@ -2,15 +2,15 @@
 use Rattle.std.specs.Prelude.{◌≡◌, ◌⊎◌, ℕ, zero, suc, ◌-◌, ◌<◌, [], ◌∷◌, pos}
 use Rattle.std.proofs.Common.{add-one, arith, inl, inr, refl, sym, ap, ap₂, subst, ◌∙◌}
 use Rattle.std.specs.declared.cmp.Ordering.TheVariants.{Less}
-use Rattle.exact_algebra.specs.Order.{cmp_ℚ}
-use Rattle.exact_algebra.specs.Solver.{number, negated, ◌⊞◌, ◌⊟◌, ◌⊠◌, v0, v1, v2, v3, v4, v5, v6}
-use Rattle.exact_algebra.specs.Rational.{ℚ, ◌+ℚ◌, ◌-ℚ◌, ◌*ℚ◌, neg_ℚ, inverse, whole, ◌≤ℚ◌}
-use Rattle.exact_algebra.specs.RationalSums.{sum_ℚ}
-use Rattle.exact_algebra.proofs.Inverses.{one-zero}
-use Rattle.exact_algebra.proofs.OrderLaws.{cmp_ℚ-Less, inverse_not_negative, le_from_not, ≤ℚ-minus}
-use Rattle.exact_algebra.proofs.RationalLaws.{ring_ℚ, ring_by_ℚ, *ℚ-inverse, ≤ℚ_add, ≤ℚ_refl}
-use Rattle.exact_algebra.proofs.RationalSumLaws.{sum_ℚ-le, sum_ℚ-mix, sum_ℚ-same, sum_ℚ-scale, sum_ℚ-swap, sum_ℚ-zero, ≤ℚ_from}
-use Rattle.exact_algebra.proofs.Signs.{sum_not_negative, product_not_negative}
+use Rattle.rational_laws.specs.Order.{cmp_ℚ}
+use Rattle.rational_laws.specs.Solver.{number, negated, ◌⊞◌, ◌⊟◌, ◌⊠◌, v0, v1, v2, v3, v4, v5, v6}
+use Rattle.rational_laws.specs.Rational.{ℚ, ◌+ℚ◌, ◌-ℚ◌, ◌*ℚ◌, neg_ℚ, inverse, whole, ◌≤ℚ◌}
+use Rattle.rational_laws.specs.RationalSums.{sum_ℚ}
+use Rattle.rational_laws.proofs.Inverses.{one-zero}
+use Rattle.rational_laws.proofs.OrderLaws.{cmp_ℚ-Less, inverse_not_negative, le_from_not, ≤ℚ-minus}
+use Rattle.rational_laws.proofs.RationalLaws.{ring_ℚ, ring_by_ℚ, *ℚ-inverse, ≤ℚ_add, ≤ℚ_refl}
+use Rattle.rational_laws.proofs.RationalSumLaws.{sum_ℚ-le, sum_ℚ-mix, sum_ℚ-same, sum_ℚ-scale, sum_ℚ-swap, sum_ℚ-zero, ≤ℚ_from}
+use Rattle.rational_laws.proofs.Signs.{sum_not_negative, product_not_negative}
 use Rattle.loss_model.specs.Dual.{IsDataRow, rankscore}
 use Rattle.loss_model.specs.Laws.{RankscoresAreBounded}
 use Rattle.loss_model.specs.Sample.{Sample}

@@ -1,7 +1,7 @@
 -- Stated. The integral of a function of fractions, by what an area under it is; and the function that is affine
 -- between two values.
 use Rattle.std.specs.Prelude.{◌≡◌}
-use Rattle.exact_algebra.specs.Rational.{ℚ, ◌+ℚ◌, ◌-ℚ◌, ◌*ℚ◌, inverse, ◌≤ℚ◌}
+use Rattle.rational_laws.specs.Rational.{ℚ, ◌+ℚ◌, ◌-ℚ◌, ◌*ℚ◌, inverse, ◌≤ℚ◌}
 
 -- nowhere from a to b is f below m
 abbrev pub IsAtLeast : (ℚ → ℚ) → ℚ → ℚ → ℚ → Type 0

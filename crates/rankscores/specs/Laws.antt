@@ -1,7 +1,7 @@
 -- Law. What the laws of Wilcoxon scores say; each is the contract of a function (Gutenbrunner and Jurečková 1992).
 use Rattle.std.specs.Prelude.{◌≡◌, ◌↔◌, ℕ, ◌+◌, ◌<◌, pos}
-use Rattle.exact_algebra.specs.Rational.{ℚ, ◌-ℚ◌, ◌*ℚ◌, neg_ℚ, whole, ◌≤ℚ◌}
-use Rattle.exact_algebra.specs.RationalSums.{sum_ℚ}
+use Rattle.rational_laws.specs.Rational.{ℚ, ◌-ℚ◌, ◌*ℚ◌, neg_ℚ, whole, ◌≤ℚ◌}
+use Rattle.rational_laws.specs.RationalSums.{sum_ℚ}
 use Rattle.loss_model.specs.Dual.{IsDataRow, IsFeasible, mix}
 use Rattle.loss_model.specs.Sample.{Sample}
 use Rattle.loss_model.specs.Segment.{Covers, Segments}

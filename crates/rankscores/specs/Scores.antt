@@ -1,8 +1,8 @@
 -- Stated. The rankscores of a segment's basic rows (Gutenbrunner and Jurečková 1992). A type F of fractions is seen by
 -- a function into pairs.
 use Rattle.std.specs.Prelude.{◌≡◌, ℕ, ◌<◌, List, length, map, All, nat_lt, if◌then◌else◌}
-use Rattle.exact_algebra.specs.Rational.{ℚ}
-use Rattle.exact_algebra.specs.Fraction.{Fraction, rational}
+use Rattle.rational_laws.specs.Rational.{ℚ}
+use Rattle.rational_laws.specs.Fraction.{Fraction, rational}
 use Rattle.loss_model.specs.declared.problem.Problem.{Problem}
 use Rattle.loss_model.specs.declared.process.Segment.{Segment}
 use Rattle.loss_model.specs.declared.vertex.Vertex.{Vertex}

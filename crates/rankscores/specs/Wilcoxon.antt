@@ -1,8 +1,8 @@
 -- Stated. Wilcoxon scores of the rows: integrals of their rankscores (Gutenbrunner and Jurečková 1992).
 use Rattle.std.specs.Prelude.{◌≡◌, ℕ, ◌<◌, List, length, pos}
-use Rattle.exact_algebra.specs.Rational.{ℚ, ◌-ℚ◌, quotient}
-use Rattle.exact_algebra.specs.RationalSums.{sum_ℚ}
-use Rattle.exact_algebra.specs.Fraction.{Fraction}
+use Rattle.rational_laws.specs.Rational.{ℚ, ◌-ℚ◌, quotient}
+use Rattle.rational_laws.specs.RationalSums.{sum_ℚ}
+use Rattle.rational_laws.specs.Fraction.{Fraction}
 use Rattle.loss_model.specs.declared.problem.Problem.{Problem}
 use Rattle.loss_model.specs.declared.process.Segment.{Segment}
 use Rattle.loss_model.specs.Dual.{rankscore}

@@ -1,7 +1,7 @@
 //! The scores of one basic row.
 ghost use Rattle.std.specs.Prelude.{◌≡◌, ◌≢◌, ℕ, ◌<◌, All, length, slice_index, IfOk, IfErr, pos};
-ghost use Rattle.exact_algebra.specs.Fraction.{rational};
-ghost use Rattle.exact_algebra.specs.Rational.{◌+ℚ◌, ◌-ℚ◌, ◌*ℚ◌, inverse, whole};
+ghost use Rattle.rational_laws.specs.Fraction.{rational};
+ghost use Rattle.rational_laws.specs.Rational.{◌+ℚ◌, ◌-ℚ◌, ◌*ℚ◌, inverse, whole};
 ghost use Rattle.loss_model.specs.Problem.{sample};
 ghost use Rattle.loss_model.specs.Vertex.{IsVertexOf};
 ghost use Rattle.rankscores.specs.Scores.{row_score};

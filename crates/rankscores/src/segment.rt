@@ -1,6 +1,6 @@
 //! The scores of a segment's basic rows.
 ghost use Rattle.std.specs.Prelude.{◌≡◌, ◌≢◌, ℕ, ◌<◌, All, length, IfOk, IfErr, pos};
-ghost use Rattle.exact_algebra.specs.Rational.{whole};
+ghost use Rattle.rational_laws.specs.Rational.{whole};
 ghost use Rattle.loss_model.specs.Problem.{sample};
 ghost use Rattle.loss_model.specs.Quantities.{IsShortOf};
 ghost use Rattle.loss_model.specs.Vertex.{IsVertexOf};

@@ -4,11 +4,11 @@ use Rattle.std.proofs.Common.{arith, refl, subst}
 use mathlib.Core.HProp.{HProp}
 use mathlib.Core.HLevel.{Π_prop, ¬_prop}
 use mathlib.Core.Quot.{mk, lift_prop}
-use Rattle.exact_algebra.specs.Solver.{number, ◌⊞◌, ◌⊟◌, v0, v1, v2}
-use Rattle.exact_algebra.specs.Rational.{ℚ, ◌-ℚ◌, whole, le_ℚ, ◌≤ℚ◌}
-use Rattle.exact_algebra.proofs.RationalLaws.{ring_ℚ, ring_by_ℚ, ≤ℚ_trans}
-use Rattle.exact_algebra.proofs.RationalSumLaws.{≤ℚ_from}
-use Rattle.exact_algebra.proofs.OrderLaws.{≤ℚ-minus, le_from_not, not_le}
+use Rattle.rational_laws.specs.Solver.{number, ◌⊞◌, ◌⊟◌, v0, v1, v2}
+use Rattle.rational_laws.specs.Rational.{ℚ, ◌-ℚ◌, whole, le_ℚ, ◌≤ℚ◌}
+use Rattle.rational_laws.proofs.RationalLaws.{ring_ℚ, ring_by_ℚ, ≤ℚ_trans}
+use Rattle.rational_laws.proofs.RationalSumLaws.{≤ℚ_from}
+use Rattle.rational_laws.proofs.OrderLaws.{≤ℚ-minus, le_from_not, not_le}
 use Rattle.loss_model.specs.Strict.{◌<ℚ◌}
 use Rattle.real_laws.specs.Laws.{RealsKeepOrder}
 use Rattle.real_laws.specs.Fractions.{left_at_most}

@@ -2,13 +2,13 @@
 use Rattle.std.specs.Prelude.{◌≡◌, ◌≢◌, ◌≤◌, Bool, true, false, [], ◌∷◌, pos}
 use Rattle.std.proofs.Common.{arith, refl, sym, subst}
 use Rattle.std.proofs.lemmas.Int.{ints}
-use Rattle.exact_algebra.specs.Solver.{number, negated, ◌⊞◌, ◌⊟◌, ◌⊠◌, v0, v1, v2, v3}
-use Rattle.exact_algebra.specs.Rational.{ℚ, ◌+ℚ◌, ◌-ℚ◌, ◌*ℚ◌, neg_ℚ, inverse, whole, le_ℚ, ◌≤ℚ◌}
-use Rattle.exact_algebra.proofs.RationalLaws.{ring_ℚ, ring_by_ℚ, *ℚ-inverse, ≤ℚ_refl, ≤ℚ_trans, ≤ℚ_add, ≤ℚ_mul, ≤ℚ_total}
-use Rattle.exact_algebra.proofs.RationalSumLaws.{≤ℚ_add2, ≤ℚ_from}
-use Rattle.exact_algebra.proofs.OrderLaws.{≤ℚ-minus, le_from_not}
-use Rattle.exact_algebra.proofs.WholeNumbers.{le_from_whole}
-use Rattle.exact_algebra.proofs.Signs.{product_not_negative}
+use Rattle.rational_laws.specs.Solver.{number, negated, ◌⊞◌, ◌⊟◌, ◌⊠◌, v0, v1, v2, v3}
+use Rattle.rational_laws.specs.Rational.{ℚ, ◌+ℚ◌, ◌-ℚ◌, ◌*ℚ◌, neg_ℚ, inverse, whole, le_ℚ, ◌≤ℚ◌}
+use Rattle.rational_laws.proofs.RationalLaws.{ring_ℚ, ring_by_ℚ, *ℚ-inverse, ≤ℚ_refl, ≤ℚ_trans, ≤ℚ_add, ≤ℚ_mul, ≤ℚ_total}
+use Rattle.rational_laws.proofs.RationalSumLaws.{≤ℚ_add2, ≤ℚ_from}
+use Rattle.rational_laws.proofs.OrderLaws.{≤ℚ-minus, le_from_not}
+use Rattle.rational_laws.proofs.WholeNumbers.{le_from_whole}
+use Rattle.rational_laws.proofs.Signs.{product_not_negative}
 use Rattle.loss_model.specs.Strict.{◌<ℚ◌}
 use Rattle.loss_model.proofs.Quotients.{inverse_of}
 use Rattle.real_laws.specs.Fractions.{greater_ℚ, left_at_most, right_at_most, greater_is_least}

@@ -2,12 +2,12 @@
 -- together, and that it gives one number where its arguments are of one (Bishop 1967, chapter 2).
 use Rattle.std.specs.Prelude.{◌≡◌, ℕ, ◌+◌, ◌≤◌, [], ◌∷◌, pos}
 use Rattle.std.proofs.Common.{arith, refl, sym, subst}
-use Rattle.exact_algebra.specs.Solver.{number, negated, ◌⊞◌, ◌⊟◌, ◌⊠◌, v0, v1, v2, v3}
-use Rattle.exact_algebra.specs.Rational.{ℚ, ◌+ℚ◌, ◌-ℚ◌, ◌*ℚ◌, neg_ℚ, whole, ◌≤ℚ◌}
-use Rattle.exact_algebra.specs.RationalSums.{positive_ℚ, negative_ℚ}
-use Rattle.exact_algebra.proofs.RationalLaws.{ring_ℚ, ring_by_ℚ, ≤ℚ_trans}
-use Rattle.exact_algebra.proofs.RationalSumLaws.{parts_ℚ, ≤ℚ_from}
-use Rattle.exact_algebra.proofs.OrderLaws.{≤ℚ-minus}
+use Rattle.rational_laws.specs.Solver.{number, negated, ◌⊞◌, ◌⊟◌, ◌⊠◌, v0, v1, v2, v3}
+use Rattle.rational_laws.specs.Rational.{ℚ, ◌+ℚ◌, ◌-ℚ◌, ◌*ℚ◌, neg_ℚ, whole, ◌≤ℚ◌}
+use Rattle.rational_laws.specs.RationalSums.{positive_ℚ, negative_ℚ}
+use Rattle.rational_laws.proofs.RationalLaws.{ring_ℚ, ring_by_ℚ, ≤ℚ_trans}
+use Rattle.rational_laws.proofs.RationalSumLaws.{parts_ℚ, ≤ℚ_from}
+use Rattle.rational_laws.proofs.OrderLaws.{≤ℚ-minus}
 use Rattle.loss_model.specs.Strict.{◌<ℚ◌}
 use Rattle.real_laws.specs.Fractions.{greater_ℚ}
 use Rattle.real_laws.specs.Distances.{one_some, sum_known, no_distance, half_of, half_some, by_halves, part_of, part_some, part_within, greater_near}

@@ -1,7 +1,7 @@
 -- Law. What is asked of numbers beyond the fractions: a commutative ring with an order, in which the fractions stand. The
 -- real numbers are such a ring, and so is every ordered field. Nothing is divided, so that no more is asked.
 use Rattle.std.specs.Prelude.{◌≡◌, ℕ, zero, suc, pos}
-use Rattle.exact_algebra.specs.Rational.{ℚ, ◌+ℚ◌, ◌*ℚ◌, whole, ◌≤ℚ◌}
+use Rattle.rational_laws.specs.Rational.{ℚ, ◌+ℚ◌, ◌*ℚ◌, whole, ◌≤ℚ◌}
 
 pub record OrderedRing : Type 1 where
   pub Number : Type 0

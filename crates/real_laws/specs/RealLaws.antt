@@ -2,10 +2,10 @@
 use Rattle.std.specs.Prelude.{◌≡◌, ℕ, Bool, true, false, cond, pos}
 use Rattle.std.proofs.Common.{refl, sym, ap, ap₂, subst, ◌∙◌}
 use mathlib.Core.Quot.{mk, sound, ind}
-use Rattle.exact_algebra.specs.Rational.{ℚ, ◌+ℚ◌, ◌*ℚ◌, whole, le_ℚ, ◌≤ℚ◌}
-use Rattle.exact_algebra.proofs.RationalLaws.{+ℚ_assoc, +ℚ_comm, zero-+ℚ, +ℚ_invr, *ℚ_assoc, *ℚ_comm, one-*ℚ, *ℚ-+ℚ}
-use Rattle.exact_algebra.proofs.RationalLaws.{≤ℚ_refl, ≤ℚ_trans, ≤ℚ_antisym, ≤ℚ_add}
-use Rattle.exact_algebra.proofs.Signs.{product_not_negative}
+use Rattle.rational_laws.specs.Rational.{ℚ, ◌+ℚ◌, ◌*ℚ◌, whole, le_ℚ, ◌≤ℚ◌}
+use Rattle.rational_laws.proofs.RationalLaws.{+ℚ_assoc, +ℚ_comm, zero-+ℚ, +ℚ_invr, *ℚ_assoc, *ℚ_comm, one-*ℚ, *ℚ-+ℚ}
+use Rattle.rational_laws.proofs.RationalLaws.{≤ℚ_refl, ≤ℚ_trans, ≤ℚ_antisym, ≤ℚ_add}
+use Rattle.rational_laws.proofs.Signs.{product_not_negative}
 use Rattle.real_laws.specs.OrderedRings.{OrderedRing}
 use Rattle.real_laws.specs.Fractions.{greater_ℚ, left_at_most, right_at_most, greater_is_least}
 use Rattle.real_laws.specs.Sequences.{Sequence}

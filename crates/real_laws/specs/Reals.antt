@@ -6,7 +6,7 @@
 --     x ≤ℝ y                                                     y is the greater of both
 use Rattle.std.specs.Prelude.{◌≡◌}
 use mathlib.Core.Quot.{Quot, mk, sound, ind, lift, Quot-set}
-use Rattle.exact_algebra.specs.Rational.{ℚ}
+use Rattle.rational_laws.specs.Rational.{ℚ}
 use Rattle.real_laws.specs.Sequences.{Sequence, Same}
 use Rattle.real_laws.specs.Operations.{constant, plus_terms, minus_terms, times_terms, greater_terms}
 use Rattle.real_laws.specs.Operations.{plus_left, plus_right, minus_same, times_left, times_right, greater_left, greater_right}

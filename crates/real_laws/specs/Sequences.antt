@@ -1,7 +1,7 @@
 -- Law. Sequences of fractions that come together, each with a number from which on its terms are as near as is asked (Cantor
 -- 1872; Bishop 1967, chapter 2).
 use Rattle.std.specs.Prelude.{ℕ, ◌≤◌, pos}
-use Rattle.exact_algebra.specs.Rational.{ℚ, ◌-ℚ◌, whole, ◌≤ℚ◌}
+use Rattle.rational_laws.specs.Rational.{ℚ, ◌-ℚ◌, whole, ◌≤ℚ◌}
 use Rattle.loss_model.specs.Strict.{◌<ℚ◌}
 
 -- the terms from `from e` on differ by at most e

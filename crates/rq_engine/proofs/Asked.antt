@@ -6,8 +6,8 @@ use Rattle.std.specs.Prelude.{⊤}
 use Rattle.std.specs.List.{list_any}
 use Rattle.std.proofs.lemmas.List.Elements.{All-cons, All-nil}
 use Rattle.std.proofs.lemmas.Bool.{or_parts}
-use Rattle.exact_algebra.specs.Fraction.{rational}
-use Rattle.exact_algebra.specs.Rational.{ℚ, le_ℚ}
+use Rattle.rational_laws.specs.Fraction.{rational}
+use Rattle.rational_laws.specs.Rational.{ℚ, le_ℚ}
 use Rattle.frac_core.specs.declared.frac128.Frac128.{Frac128}
 use Rattle.frac_core.specs.Values.{exact, value}
 use Rattle.rq_words.specs.Requests.{fit_request, path_request, rank_request, sample_request, test_request}

@@ -2,8 +2,8 @@
 use Rattle.std.proofs.Common.{◌≡◌, ◌<◌, ◌≤◌, ℕ, suc, Bool, List, [], ◌∷◌, ◌++◌, All, Contains, get_or, is_some, length, map, Some, slice_index, arith, refl, sym, ap, subst, ◌∙◌}
 use Rattle.std.specs.List.{AllZip}
 use Rattle.std.proofs.lemmas.List.Elements.{All-cons, All-nil}
-use Rattle.exact_algebra.specs.Fraction.{Fraction, rational}
-use Rattle.exact_algebra.specs.Rational.{ℚ}
+use Rattle.rational_laws.specs.Fraction.{Fraction, rational}
+use Rattle.rational_laws.specs.Rational.{ℚ}
 use Rattle.frac_core.specs.declared.frac128.Frac128.{Frac128}
 use Rattle.frac_core.specs.Values.{value}
 use Rattle.loss_model.specs.declared.interval.Bound.{Bound}
@@ -16,14 +16,14 @@ use Rattle.loss_model.specs.declared.interval.IntervalProof.{IntervalProof}
 use Rattle.loss_model.specs.declared.problem.Problem.{Problem}
 use Rattle.loss_model.specs.declared.vertex.Vertex.{Vertex}
 use Rattle.loss_model.specs.Problem.{sample}
-use Rattle.pivot_rule.specs.declared.direction.Direction.{Direction}
-use Rattle.pivot_rule.specs.Results.{IsVertexAt}
-use Rattle.pivot_rule.specs.Trails.{AtBasis}
-use Rattle.pivot_rule.proofs.Solved.{any_default}
-use Rattle.rank_walk.specs.Ends.{IsEndAt, IsHandedOut}
-use Rattle.rank_walk.specs.Intervals.{stated, statement, bound_by, IsIntervalOf}
-use Rattle.rank_walk.proofs.Intervals.{stated_each}
-use Rattle.rank_walk.specs.RankWalks.{Way, rise, fall}
+use Rattle.pivot_model.specs.declared.direction.Direction.{Direction}
+use Rattle.pivot_model.specs.Results.{IsVertexAt}
+use Rattle.pivot_model.specs.Trails.{AtBasis}
+use Rattle.pivot_model.proofs.Solved.{any_default}
+use Rattle.rank_walk_model.specs.Ends.{IsEndAt, IsHandedOut}
+use Rattle.rank_walk_model.specs.Intervals.{stated, statement, bound_by, IsIntervalOf}
+use Rattle.rank_walk_model.proofs.Intervals.{stated_each}
+use Rattle.rank_walk_model.specs.RankWalks.{Way, rise, fall}
 use Rattle.rank_inversion.specs.declared.column_test.Asked.{Asked}
 use Rattle.cert_text.specs.Kept.{is_finite, is_outside, IsKeptEnd, IsKeptInterval, IsKeptSegment}
 use Rattle.cert_text.specs.declared.cert.Cert.{Cert}

@@ -1,16 +1,16 @@
 -- Data rows and penalty rows have costs at every quantile.
 use Rattle.std.proofs.Common.{◌≡◌, ◌<◌, ◌≤◌, ℕ, [], ◌∷◌, length, pos, inl, inr, refl, sym, ap, subst, ◌∙◌}
 use Rattle.std.proofs.lemmas.Bool.{cases_lt}
-use Rattle.exact_algebra.proofs.OrderLaws.{cmp_ℚ-Less, ≤ℚ-minus}
-use Rattle.exact_algebra.specs.Fraction.{rational}
-use Rattle.exact_algebra.specs.Rational.{ℚ, ◌+ℚ◌, ◌*ℚ◌, whole, ◌≤ℚ◌}
-use Rattle.exact_algebra.proofs.RationalLaws.{≤ℚ_trans, ring_ℚ}
-use Rattle.exact_algebra.specs.Solver.{number, ◌⊞◌, ◌⊟◌, ◌⊠◌, v0, v1}
+use Rattle.rational_laws.proofs.OrderLaws.{cmp_ℚ-Less, ≤ℚ-minus}
+use Rattle.rational_laws.specs.Fraction.{rational}
+use Rattle.rational_laws.specs.Rational.{ℚ, ◌+ℚ◌, ◌*ℚ◌, whole, ◌≤ℚ◌}
+use Rattle.rational_laws.proofs.RationalLaws.{≤ℚ_trans, ring_ℚ}
+use Rattle.rational_laws.specs.Solver.{number, ◌⊞◌, ◌⊟◌, ◌⊠◌, v0, v1}
 use Rattle.frac_core.specs.Values.{value}
 use Rattle.loss_model.specs.Problem.{sample}
 use Rattle.loss_model.specs.Sample.{Sample, up_cost, down_cost}
-use Rattle.pivot_rule.specs.Duals.{HasCosts}
-use Rattle.pivot_rule.proofs.DataRows.{IsCosted, at_least_zero, row_costs}
+use Rattle.pivot_model.specs.Duals.{HasCosts}
+use Rattle.pivot_model.proofs.DataRows.{IsCosted, at_least_zero, row_costs}
 use Rattle.rq_words.specs.declared.job.FitJob.{FitJob}
 use Rattle.rq_program.specs.Costs.{IsPenaltyRow}
 use Rattle.rq_input.specs.Rows.{HasRows}

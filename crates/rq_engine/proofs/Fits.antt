@@ -4,8 +4,8 @@ use Rattle.std.specs.List.{AllZip}
 use Rattle.std.proofs.lemmas.List.{length-append}
 use Rattle.std.proofs.lemmas.Option.{slice_get-get_or}
 use Rattle.std.proofs.lemmas.List.Elements.{All-cons, All-nil}
-use Rattle.exact_algebra.specs.Fraction.{Fraction, rational}
-use Rattle.exact_algebra.specs.Rational.{ℚ, ◌≤ℚ◌}
+use Rattle.rational_laws.specs.Fraction.{Fraction, rational}
+use Rattle.rational_laws.specs.Rational.{ℚ, ◌≤ℚ◌}
 use Rattle.frac_core.specs.declared.frac128.Frac128.{Frac128}
 use Rattle.frac_core.specs.Values.{value}
 use Rattle.loss_model.specs.declared.interval.Interval.{Interval}
@@ -26,10 +26,10 @@ use Rattle.loss_model.specs.Vertex.{IsVertexOf}
 use Rattle.loss_model.proofs.Duality.{minimum}
 use Rattle.loss_model.proofs.Intervals.{mixes}
 use Rattle.loss_model.proofs.Mixes.{minimum_between, mixed}
-use Rattle.pivot_rule.specs.Trails.{basis_after}
-use Rattle.pivot_rule.proofs.Solved.{any_default}
-use Rattle.walk_rule.specs.Stays.{Stay, AreOptimalSegments, AreSegmentsOf, IsOptimalSegment, IsSegmentOf, is_reported, stays}
-use Rattle.walk_rule.specs.WalkTrails.{theta_value}
+use Rattle.pivot_model.specs.Trails.{basis_after}
+use Rattle.pivot_model.proofs.Solved.{any_default}
+use Rattle.walk_model.specs.Stays.{Stay, AreOptimalSegments, AreSegmentsOf, IsOptimalSegment, IsSegmentOf, is_reported, stays}
+use Rattle.walk_model.specs.WalkTrails.{theta_value}
 use Rattle.tau_process.specs.Processes.{HasResults, IsProcess}
 use Rattle.tau_process.specs.Stops.{IsLimited, IsProcessStop}
 use Rattle.rankscores.specs.declared.pair.ScorePair.{ScorePair}

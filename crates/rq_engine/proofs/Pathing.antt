@@ -1,9 +1,9 @@
 -- Why an input has a path in lambda: its costs are lawful at every lambda above 0, and its columns are independent.
 use Rattle.std.proofs.Common.{◌≡◌, ◌≤◌, ◌+◌, ◌-◌, Bool, true, false, List, length, pos, arith, ap, inl, inr, refl, ℕ}
-use Rattle.exact_algebra.specs.Fraction.{rational}
-use Rattle.exact_algebra.specs.Rational.{ℚ, whole}
-use Rattle.exact_algebra.proofs.OrderLaws.{cmp_ℚ-Less}
-use Rattle.exact_algebra.proofs.RationalLaws.{≤ℚ_trans}
+use Rattle.rational_laws.specs.Fraction.{rational}
+use Rattle.rational_laws.specs.Rational.{ℚ, whole}
+use Rattle.rational_laws.proofs.OrderLaws.{cmp_ℚ-Less}
+use Rattle.rational_laws.proofs.RationalLaws.{≤ℚ_trans}
 use Rattle.frac_core.specs.declared.frac128.Frac128.{Frac128}
 use Rattle.frac_core.specs.Values.{exact, value}
 use Rattle.loss_model.specs.declared.problem.Problem.{Problem}
@@ -13,7 +13,7 @@ use Rattle.loss_model.specs.FullRank.{HasFullRank}
 use Rattle.loss_model.specs.Problem.{sample, IsWellShaped}
 use Rattle.loss_model.specs.StartStop.{IsDependent}
 use Rattle.loss_model.specs.Strict.{◌<ℚ◌}
-use Rattle.pivot_rule.specs.Duals.{HasCosts}
+use Rattle.pivot_model.specs.Duals.{HasCosts}
 use Rattle.tau_process.specs.Stops.{IsProcessStop}
 use Rattle.lambda_path.specs.Faults.{HasCause}
 use Rattle.lambda_path.specs.declared.fault.PathFault.{PathFault}

@@ -1,11 +1,11 @@
 -- The rank test of an input: the process without the tested columns, the scores by it, and why there is none.
 use Rattle.std.proofs.Common.{◌≡◌, ◌<◌, ◌≤◌, ℕ, zero, suc, List, [], ◌∷◌, All, length, map, pos, arith, refl, sym, ap, subst, ◌∙◌}
 use Rattle.std.proofs.lemmas.List.{length-map}
-use Rattle.exact_algebra.specs.Fraction.{Fraction, rational}
-use Rattle.exact_algebra.specs.Rational.{ℚ, neg_ℚ, whole, ◌≤ℚ◌}
+use Rattle.rational_laws.specs.Fraction.{Fraction, rational}
+use Rattle.rational_laws.specs.Rational.{ℚ, neg_ℚ, whole, ◌≤ℚ◌}
 use Rattle.std.specs.declared.cmp.Ordering.TheVariants.{Less}
-use Rattle.exact_algebra.specs.Order.{cmp_ℚ}
-use Rattle.exact_algebra.proofs.RationalLaws.{≤ℚ_trans}
+use Rattle.rational_laws.specs.Order.{cmp_ℚ}
+use Rattle.rational_laws.proofs.RationalLaws.{≤ℚ_trans}
 use Rattle.frac_core.specs.declared.frac128.Frac128.{Frac128}
 use Rattle.frac_core.specs.Values.{value}
 use Rattle.loss_model.specs.declared.problem.Problem.{Problem}
@@ -17,8 +17,8 @@ use Rattle.loss_model.specs.FullRank.{HasFullRank}
 use Rattle.loss_model.specs.declared.problem.Row.{Row}
 use Rattle.loss_model.specs.Problem.{IsWellShaped, of_row, sample}
 use Rattle.loss_model.specs.Segment.{Covers, segments_of}
-use Rattle.pivot_rule.specs.Duals.{HasCosts}
-use Rattle.pivot_rule.proofs.DataRows.{data_costs}
+use Rattle.pivot_model.specs.Duals.{HasCosts}
+use Rattle.pivot_model.proofs.DataRows.{data_costs}
 use Rattle.tau_process.specs.Processes.{IsProcess}
 use Rattle.tau_process.specs.Stops.{IsProcessStop}
 use Rattle.rankscores.specs.Scores.{IsScorable}

@@ -1,7 +1,7 @@
 -- Inner. What is known of a job whose words ask for a fit.
 use Rattle.std.specs.Prelude.{◌≡◌, true, All, Option, None, Some, map, pos, ⊤}
-use Rattle.exact_algebra.specs.Fraction.{rational}
-use Rattle.exact_algebra.specs.Rational.{whole, ◌≤ℚ◌}
+use Rattle.rational_laws.specs.Fraction.{rational}
+use Rattle.rational_laws.specs.Rational.{whole, ◌≤ℚ◌}
 use Rattle.frac_core.specs.Values.{value}
 use Rattle.rq_words.specs.declared.job.RankAsk.{RankAsk}
 use Rattle.rq_words.specs.declared.job.FitJob.{FitJob}

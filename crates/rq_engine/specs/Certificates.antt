@@ -1,6 +1,6 @@
 -- Stated. What the certificate of a fit states.
 use Rattle.std.specs.Prelude.{◌≡◌, ℕ, ◌*◌, ◌≤◌, ◌<◌, ◌^◌, ◌⊎◌, Ok, Some, length, map}
-use Rattle.rank_walk.specs.Intervals.{statement}
+use Rattle.rank_walk_model.specs.Intervals.{statement}
 use Rattle.cert_text.specs.Certificates.{cert_of}
 use Rattle.cert_text.specs.Contents.{content}
 use Rattle.cert_text.specs.Limits.{IsWithinLimits, most_sides}

@@ -2,7 +2,7 @@
 use Rattle.std.specs.Prelude.{List, length, ⊤}
 use Rattle.frac_core.specs.declared.frac128.Frac128.{Frac128}
 use Rattle.loss_model.specs.declared.interval.Interval.{Interval}
-use Rattle.rank_walk.specs.Intervals.{stated}
+use Rattle.rank_walk_model.specs.Intervals.{stated}
 use Rattle.cert_text.specs.Kept.{IsKeptInterval}
 use Rattle.cert_text.specs.declared.cert.Cert.{Cert}
 use Rattle.rq_input.specs.declared.input.Input.{Input}

@@ -1,8 +1,8 @@
 -- Stated. The right predictions of an input over a range of quantiles, and why there are none.
 use Rattle.std.specs.Prelude.{◌≡◌, ℕ, ◌≤◌, List, Contains, length, ⊤}
 use Rattle.std.specs.List.{AllZip}
-use Rattle.exact_algebra.specs.Fraction.{rational}
-use Rattle.exact_algebra.specs.Rational.{ℚ}
+use Rattle.rational_laws.specs.Fraction.{rational}
+use Rattle.rational_laws.specs.Rational.{ℚ}
 use Rattle.frac_core.specs.declared.frac128.Frac128.{Frac128}
 use Rattle.frac_core.specs.Values.{value}
 use Rattle.loss_model.specs.declared.process.Segment.{Segment}
@@ -10,7 +10,7 @@ use Rattle.loss_model.specs.declared.process.Trail.{Trail}
 use Rattle.loss_model.specs.declared.spill.Spill.{Spill}
 use Rattle.loss_model.specs.Problem.{sample, IsWellShaped}
 use Rattle.loss_model.specs.StartStop.{IsDependent}
-use Rattle.walk_rule.specs.WalkTrails.{ReachesProcessLimit}
+use Rattle.walk_model.specs.WalkTrails.{ReachesProcessLimit}
 use Rattle.tau_process.specs.Processes.{HasResults}
 use Rattle.tau_process.specs.Stops.{IsProcessSpill}
 use Rattle.predict_steps.specs.Predictions.{pieces, rearranged_pieces, AreSteps}

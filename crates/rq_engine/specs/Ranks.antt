@@ -1,6 +1,6 @@
 -- Stated. The right fit of an input over 0 to 1 with the Wilcoxon scores of its rows.
 use Rattle.std.specs.Prelude.{length, pos}
-use Rattle.exact_algebra.specs.Rational.{whole}
+use Rattle.rational_laws.specs.Rational.{whole}
 use Rattle.frac_core.specs.Values.{value}
 use Rattle.loss_model.specs.Segment.{Covers, segments_of}
 use Rattle.rankscores.specs.Wilcoxon.{AreWilcoxon}

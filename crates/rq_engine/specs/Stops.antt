@@ -1,8 +1,8 @@
 -- Stated. Why a problem has no fit or no rank intervals.
 use Rattle.std.specs.Prelude.{◌≡◌, ◌⊎◌, ℕ, ◌^◌, ◌-◌, ◌≤◌, List, [], length, slice_get, Some, ⊤}
 use Rattle.std.specs.List.{AllZip}
-use Rattle.exact_algebra.specs.Fraction.{Fraction, rational}
-use Rattle.exact_algebra.specs.Rational.{ℚ}
+use Rattle.rational_laws.specs.Fraction.{Fraction, rational}
+use Rattle.rational_laws.specs.Rational.{ℚ}
 use Rattle.frac_core.specs.declared.frac128.Frac128.{Frac128}
 use Rattle.frac_core.specs.Values.{value}
 use Rattle.loss_model.specs.declared.problem.Problem.{Problem}
@@ -14,7 +14,7 @@ use Rattle.loss_model.specs.declared.stop.Stop.{Stop}
 use Rattle.loss_model.specs.declared.stop.Stop.TheVariants as stops
 use Rattle.loss_model.specs.Problem.{sample}
 use Rattle.loss_model.specs.StartStop.{IsDependent}
-use Rattle.walk_rule.specs.WalkTrails.{ReachesProcessLimit}
+use Rattle.walk_model.specs.WalkTrails.{ReachesProcessLimit}
 use Rattle.tau_process.specs.Processes.{HasResults}
 use Rattle.tau_process.specs.Stops.{IsProcessSpill}
 use Rattle.rq_words.specs.declared.job.FitJob.{FitJob}

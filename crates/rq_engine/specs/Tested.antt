@@ -1,7 +1,7 @@
 -- Stated. The right rank test of an input, and why there is none.
 use Rattle.std.specs.Prelude.{◌≡◌, List, length, pos, slice_index, ⊤}
-use Rattle.exact_algebra.specs.Fraction.{Fraction, rational}
-use Rattle.exact_algebra.specs.Rational.{whole}
+use Rattle.rational_laws.specs.Fraction.{Fraction, rational}
+use Rattle.rational_laws.specs.Rational.{whole}
 use Rattle.frac_core.specs.declared.frac128.Frac128.{Frac128}
 use Rattle.frac_core.specs.Values.{value}
 use Rattle.loss_model.specs.declared.problem.Problem.{Problem}
@@ -10,7 +10,7 @@ use Rattle.loss_model.specs.FullRank.{HasFullRank}
 use Rattle.loss_model.specs.Problem.{sample, value_at, IsWellShaped}
 use Rattle.loss_model.specs.Segment.{Covers, segments_of}
 use Rattle.loss_model.specs.StartStop.{IsDependent, IsStartSpill}
-use Rattle.walk_rule.specs.WalkTrails.{ReachesProcessLimit}
+use Rattle.walk_model.specs.WalkTrails.{ReachesProcessLimit}
 use Rattle.tau_process.specs.Stops.{IsProcessSpill}
 use Rattle.rankscores.specs.Wilcoxon.{AreWilcoxon}
 use Rattle.nested_test.specs.Nested.{column_score, AreScores, IsNestedStatistic}

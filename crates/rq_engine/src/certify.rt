@@ -1,6 +1,6 @@
 //! The job `certify`: the fit of the job `process`, as a certificate.
 ghost use Rattle.std.specs.Prelude.{◌≡◌, ◌<◌, ◌≤◌, ◌^◌, All, is_some, length, map, nat_lt, true, IfOk, IfErr, OnOk, Some};
-ghost use Rattle.rank_walk.specs.Intervals.{statement};
+ghost use Rattle.rank_walk_model.specs.Intervals.{statement};
 ghost use Rattle.cert_text.specs.Kept.{IsKeptSegment};
 ghost use Rattle.cert_text.specs.Limits.{most_sides};
 ghost use Rattle.rq_input.specs.Rows.{HasRows};

@@ -2,7 +2,7 @@
 //! that are asked for.
 ghost use Rattle.std.specs.Prelude.{◌≡◌, ◌≢◌, ℕ, ◌<◌, ◌≤◌, ◌^◌, ◌++◌, All, is_some, length, pos, true, IfOk, IfErr};
 ghost use Rattle.std.specs.List.{AllZip};
-ghost use Rattle.exact_algebra.specs.Rational.{whole};
+ghost use Rattle.rational_laws.specs.Rational.{whole};
 ghost use Rattle.frac_core.specs.Values.{value};
 ghost use Rattle.loss_model.specs.Dual.{IsDataRow};
 ghost use Rattle.loss_model.specs.Problem.{sample, IsWellShaped};

@@ -2,7 +2,7 @@
 //! their rearrangement.
 ghost use Rattle.std.specs.Prelude.{◌≡◌, ◌<◌, ◌≤◌, ◌^◌, All, length, IfOk, IfErr};
 ghost use Rattle.std.specs.List.{AllZip};
-ghost use Rattle.exact_algebra.specs.Rational.{ℚ};
+ghost use Rattle.rational_laws.specs.Rational.{ℚ};
 ghost use Rattle.frac_core.specs.Values.{value};
 ghost use Rattle.loss_model.specs.Quantities.{IsShortOf};
 ghost use Rattle.loss_model.specs.Segment.{Covers, segments_of};

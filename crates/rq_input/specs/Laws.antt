@@ -1,6 +1,6 @@
 -- Law. What the problem of an input loses, in the subject's words.
 use Rattle.std.specs.Prelude.{◌≡◌, ℕ, Bool, zip}
-use Rattle.exact_algebra.specs.Rational.{ℚ, ◌+ℚ◌}
+use Rattle.rational_laws.specs.Rational.{ℚ, ◌+ℚ◌}
 use Rattle.frac_core.specs.Values.{value}
 use Rattle.loss_model.specs.Problem.{sample}
 use Rattle.loss_model.specs.Sample.{loss}

@@ -2,12 +2,12 @@
 use Rattle.std.proofs.Common.{◌≡◌, ℕ, zero, suc, ◌+◌, ◌++◌, Bool, true, false, cond, List, [], ◌∷◌, All, length, map, replicate, zip, pos, refl, sym, ap, ap₂, subst, ◌∙◌}
 use Rattle.std.proofs.lemmas.List.{length-map, length-replicate}
 use Rattle.std.proofs.lemmas.List.Elements.{All-head, All-tail}
-use Rattle.exact_algebra.specs.Rational.{ℚ, ◌+ℚ◌, ◌-ℚ◌, ◌*ℚ◌, ◌≤ℚ◌, neg_ℚ, le_ℚ, whole}
-use Rattle.exact_algebra.specs.RationalSums.{sum_ℚ, positive_ℚ, negative_ℚ}
-use Rattle.exact_algebra.specs.Solver.{number, negated, ◌⊞◌, ◌⊟◌, ◌⊠◌, v0, v1, v2, v3}
-use Rattle.exact_algebra.proofs.OrderLaws.{≤ℚ-minus}
-use Rattle.exact_algebra.proofs.RationalLaws.{ring_ℚ, +ℚ_assoc, zero-+ℚ, ≤ℚ_total}
-use Rattle.exact_algebra.proofs.RationalSumLaws.{sum_ℚ-first}
+use Rattle.rational_laws.specs.Rational.{ℚ, ◌+ℚ◌, ◌-ℚ◌, ◌*ℚ◌, ◌≤ℚ◌, neg_ℚ, le_ℚ, whole}
+use Rattle.rational_laws.specs.RationalSums.{sum_ℚ, positive_ℚ, negative_ℚ}
+use Rattle.rational_laws.specs.Solver.{number, negated, ◌⊞◌, ◌⊟◌, ◌⊠◌, v0, v1, v2, v3}
+use Rattle.rational_laws.proofs.OrderLaws.{≤ℚ-minus}
+use Rattle.rational_laws.proofs.RationalLaws.{ring_ℚ, +ℚ_assoc, zero-+ℚ, ≤ℚ_total}
+use Rattle.rational_laws.proofs.RationalSumLaws.{sum_ℚ-first}
 use Rattle.frac_core.specs.declared.frac128.Frac128.{Frac128}
 use Rattle.frac_core.specs.Values.{exact, value}
 use Rattle.loss_model.specs.declared.problem.Row.{Row}

@@ -5,8 +5,8 @@ use Rattle.std.proofs.Math.Seq.{take-length}
 use Rattle.std.proofs.lemmas.List.{get_or-map, length-append, length-map, length-replicate, map-append}
 use Rattle.std.proofs.lemmas.List.Elements.{All-append, All-map}
 use Rattle.std.proofs.lemmas.Slice.Zip.{get_or-zip, length-zip}
-use Rattle.exact_algebra.specs.Rational.{ℚ, neg_ℚ, whole}
-use Rattle.exact_algebra.proofs.Lists.{mapped_more, map_replicate}
+use Rattle.rational_laws.specs.Rational.{ℚ, neg_ℚ, whole}
+use Rattle.rational_laws.proofs.Lists.{mapped_more, map_replicate}
 use Rattle.frac_core.specs.declared.frac128.Frac128.{Frac128}
 use Rattle.frac_core.specs.Values.{exact}
 use Rattle.loss_model.specs.declared.problem.Row.{Row}

@@ -1,8 +1,8 @@
 -- Law. What a problem loses, in the subject's words: the weighted check loss of the records (Koenker 2005, chapter 1), and
 -- what the penalties cost (Koenker, Ng and Portnoy 1994).
 use Rattle.std.specs.Prelude.{◌≡◌, ℕ, ◌+◌, List, [], ◌∷◌, length, map, zip, pos}
-use Rattle.exact_algebra.specs.Rational.{ℚ, ◌+ℚ◌, ◌-ℚ◌, ◌*ℚ◌, whole}
-use Rattle.exact_algebra.specs.RationalSums.{positive_ℚ, negative_ℚ}
+use Rattle.rational_laws.specs.Rational.{ℚ, ◌+ℚ◌, ◌-ℚ◌, ◌*ℚ◌, whole}
+use Rattle.rational_laws.specs.RationalSums.{positive_ℚ, negative_ℚ}
 use Rattle.frac_core.specs.declared.frac128.Frac128.{Frac128}
 use Rattle.frac_core.specs.Values.{exact, value}
 use Rattle.loss_model.specs.declared.problem.Problem.{Problem}

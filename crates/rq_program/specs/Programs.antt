@@ -1,7 +1,7 @@
 -- Stated. The problem of a design and of what smooths add to it (Koenker 2005, chapter 1; Koenker, Ng and
 -- Portnoy 1994).
 use Rattle.std.specs.Prelude.{◌≡◌, ℕ, ◌+◌, ◌<◌, List, ◌++◌, All, length, map, replicate, zip, pos}
-use Rattle.exact_algebra.specs.Rational.{ℚ, neg_ℚ, whole}
+use Rattle.rational_laws.specs.Rational.{ℚ, neg_ℚ, whole}
 use Rattle.frac_core.specs.declared.frac128.Frac128.{Frac128}
 use Rattle.frac_core.specs.Values.{exact}
 use Rattle.loss_model.specs.declared.problem.Row.{Row}

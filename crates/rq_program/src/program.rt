@@ -1,6 +1,6 @@
 //! Rows and costs.
 ghost use Rattle.std.specs.Prelude.{◌≡◌, ◌≤◌, ◌+◌, ◌^◌, ◌<◌, ◌++◌, All, IfOk, OnOk, IfErr, length, map, replicate, zip, pos};
-ghost use Rattle.exact_algebra.specs.Rational.{whole};
+ghost use Rattle.rational_laws.specs.Rational.{whole};
 ghost use Rattle.frac_core.specs.Values.{exact};
 ghost use Rattle.loss_model.specs.Problem.{IsWellShaped};
 ghost use Rattle.loss_model.specs.Values.{exact_row};

@@ -4,7 +4,7 @@ use Rattle.std.specs.List.{slice_split}
 use Rattle.std.specs.Option.{option_map_or}
 use Rattle.std.proofs.lemmas.Bool.{leb-true}
 use Rattle.clap.specs.Words.{Row, Text, first_of}
-use Rattle.exact_algebra.specs.Rational.{ℚ}
+use Rattle.rational_laws.specs.Rational.{ℚ}
 use Rattle.contrasts.specs.declared.Coding.{Coding}
 use Rattle.rq_words.specs.Requests.{FitRequest, OptionNumbers, RankRequest, Request}
 use Rattle.rq_words.specs.Requests as request

@@ -2,7 +2,7 @@
 use Rattle.std.proofs.Common.{◌≡◌, Bool, true, false, not, ◌&&◌, List, Option, Some, None, Ok, refl, subst, if◌then◌else◌}
 use Rattle.std.proofs.lemmas.Bool.{and_parts}
 use Rattle.clap.specs.Words.{Row, Text}
-use Rattle.exact_algebra.specs.Rational.{ℚ, le_ℚ, ◌≤ℚ◌}
+use Rattle.rational_laws.specs.Rational.{ℚ, le_ℚ, ◌≤ℚ◌}
 use Rattle.contrasts.specs.declared.Coding.{Coding}
 use Rattle.rq_words.specs.Requests.{FitRequest, OptionNumbers, PathRequest, Request, TestRequest}
 use Rattle.rq_words.specs.Requests as request

@@ -4,7 +4,7 @@ use Rattle.std.specs.List.{list_any}
 use Rattle.std.specs.Option.{option_map_or}
 use Rattle.std.proofs.lemmas.Bool.{not-false}
 use Rattle.clap.specs.Words.{Row, Text}
-use Rattle.exact_algebra.specs.Rational.{ℚ, le_ℚ, ◌≤ℚ◌}
+use Rattle.rational_laws.specs.Rational.{ℚ, le_ℚ, ◌≤ℚ◌}
 use Rattle.contrasts.specs.declared.Coding.{Coding}
 use Rattle.rq_words.specs.Requests.{FitRequest, OptionNumbers, RankRequest, Request, TestRequest}
 use Rattle.rq_words.specs.Requests as request

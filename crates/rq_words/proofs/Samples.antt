@@ -8,7 +8,7 @@ use Rattle.clap.specs.Simple.{argument_words, built, names_of}
 use Rattle.clap.specs.Words.{Kinds, Row, Text, first_of, matches_of}
 use Rattle.clap.specs.Words as clap
 use Rattle.clap.proofs.OnLiterals.{clap_on_literals}
-use Rattle.exact_algebra.specs.Rational.{◌≤ℚ◌}
+use Rattle.rational_laws.specs.Rational.{◌≤ℚ◌}
 use Rattle.frac_core.specs.Limits.{most_rows}
 use Rattle.contrasts.specs.declared.Coding.{Coding}
 use Rattle.rq_words.specs.Commands.{command_of, options_of, read_by, some_if_none}

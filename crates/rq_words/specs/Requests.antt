@@ -1,7 +1,7 @@
 -- Stated. What a job asks for, with its numbers in ℚ and its texts as bytes.
 use Rattle.std.specs.Prelude.{ℕ, ◌+◌, ◌-◌, ◌^◌, ◌==◌, if◌then◌else◌, List, map, Option, option_map, Result}
 use Rattle.std.specs.Result.{result_map_both}
-use Rattle.exact_algebra.specs.Rational.{ℚ}
+use Rattle.rational_laws.specs.Rational.{ℚ}
 use Rattle.frac_core.specs.Values.{exact}
 use Rattle.contrasts.specs.declared.Coding.{Coding}
 use Rattle.rq_words.specs.declared.job.Job.{Job}

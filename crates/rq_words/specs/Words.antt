@@ -7,7 +7,7 @@ use Rattle.std.specs.Result.{result_ok}
 use Rattle.std.specs.Str.{bytes_eq}
 use Rattle.std.specs.Str.Parse.{digits_value}
 use Rattle.clap.specs.Words.{Row, Text, first_of}
-use Rattle.exact_algebra.specs.Rational.{ℚ, le_ℚ, whole}
+use Rattle.rational_laws.specs.Rational.{ℚ, le_ℚ, whole}
 use Rattle.frac_core.specs.NumberText.{are_digits, number_of}
 use Rattle.frac_core.specs.Limits.{most_rows}
 use Rattle.contrasts.specs.declared.Coding.{Coding}

@@ -1,7 +1,7 @@
 //! The checks on the numbers of a command, in their order.
 ghost use Rattle.std.specs.Prelude.{◌≡◌};
 ghost use Rattle.std.specs.List.{list_any};
-ghost use Rattle.exact_algebra.specs.Rational.{le_ℚ};
+ghost use Rattle.rational_laws.specs.Rational.{le_ℚ};
 ghost use Rattle.frac_core.specs.Values.{exact};
 ghost use Rattle.rq_words.specs.Requests.{option_numbers};
 ghost use Rattle.rq_words.specs.Words.{ascends, fault_of, has_range as has_range_of, is_in_order, is_outside, is_path_range as is_path_range_of};

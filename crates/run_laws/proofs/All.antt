@@ -1,6 +1,6 @@
 -- All conditions on a sound certificate are true.
 use Rattle.std.proofs.Common.{◌++◌, ◌+◌}
-use Rattle.exact_algebra.specs.Fraction.{rational}
+use Rattle.rational_laws.specs.Fraction.{rational}
 use Rattle.frac_core.specs.Values.{value as value128}
 use Rattle.loss_model.specs.Problem.{sample}
 use Rattle.cert_text.specs.declared.cert.Cert.{Cert}

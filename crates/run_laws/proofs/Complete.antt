@@ -8,7 +8,7 @@ use Rattle.loss_model.specs.declared.process.Process.{Process}
 use Rattle.loss_model.specs.declared.process.Trail.{Trail}
 use Rattle.loss_model.specs.Problem.{sample, IsWellShaped}
 use Rattle.port_io.specs.Told.{most_bytes, TakesAll, TakesFirst}
-use Rattle.pivot_bound.specs.BoundLaws.{further_bases}
+use Rattle.pivot_laws.specs.BoundLaws.{further_bases}
 use Rattle.lambda_path.specs.Laws.{PathHasCosts}
 use Rattle.rq_words.specs.Requests.{request_of}
 use Rattle.rq_words.specs.declared.job.FitJob.{FitJob}

@@ -1,6 +1,6 @@
 -- Bytes that are an input have no fault.
 use Rattle.std.proofs.Common.{◌≡◌, ◌≤◌, ℕ, Bool, true, List, Result, Ok, length, arith, sym, subst, ◌∙◌}
-use Rattle.exact_algebra.specs.Rational.{ℚ}
+use Rattle.rational_laws.specs.Rational.{ℚ}
 use Rattle.loss_model.specs.Problem.{IsWellShaped}
 use Rattle.data_frame.specs.Tables.{TableOf, table_of}
 use Rattle.data_frame.specs.Views.{exact_table}

@@ -1,8 +1,8 @@
 -- Where words ask for a fit, of which fit a halt is; and so what comes where its limit is reached, or its columns are dependent.
 use Rattle.std.specs.Prelude.{◌⊎◌, ℕ, ◌≤◌, Bool, true, false, is_some, List, length, slice_index}
 use Rattle.std.proofs.Common.{refl, subst, inl, inr}
-use Rattle.exact_algebra.specs.Fraction.{rational}
-use Rattle.exact_algebra.specs.Rational.{ℚ}
+use Rattle.rational_laws.specs.Fraction.{rational}
+use Rattle.rational_laws.specs.Rational.{ℚ}
 use Rattle.frac_core.specs.declared.frac128.Frac128.{Frac128}
 use Rattle.frac_core.specs.Values.{value}
 use Rattle.loss_model.specs.declared.problem.Problem.{Problem}
@@ -11,9 +11,9 @@ use Rattle.loss_model.specs.declared.process.Trail.{Trail}
 use Rattle.loss_model.specs.declared.spill.Spill.{Spill}
 use Rattle.loss_model.specs.FullRank.{HasFullRank}
 use Rattle.loss_model.specs.Problem.{sample}
-use Rattle.pivot_rule.proofs.Solved.{full_rank}
-use Rattle.walk_rule.specs.WalkTrails.{ReachesProcessLimit}
-use Rattle.walk_rule.proofs.Trails.{one_process}
+use Rattle.pivot_model.proofs.Solved.{full_rank}
+use Rattle.walk_model.specs.WalkTrails.{ReachesProcessLimit}
+use Rattle.walk_model.proofs.Trails.{one_process}
 use Rattle.tau_process.specs.Processes.{HasResults}
 use Rattle.tau_process.specs.Stops.{IsProcessSpill}
 use Rattle.stop_laws.proofs.Needed.{dependent, process_full}

@@ -13,7 +13,7 @@ use Rattle.std.proofs.lemmas.Option.{slice_get-get_or}
 use Rattle.std.proofs.lemmas.Slice.Eq.{bytes_eq-Decides}
 use Rattle.std.proofs.Math.ListN as seq
 use Rattle.contrasts.specs.declared.Coding.{Coding}
-use Rattle.exact_algebra.specs.Rational.{le_ℚ, whole}
+use Rattle.rational_laws.specs.Rational.{le_ℚ, whole}
 use Rattle.frac_core.specs.Limits.{most_columns}
 use Rattle.frac_core.specs.declared.arith.Arith.{Arith}
 use Rattle.frac_core.specs.declared.frac128.Frac128.{Frac128}

@@ -1,7 +1,7 @@
 -- What stops a run was needed.
 use Rattle.std.specs.Prelude.{◌≡◌, ℕ, ◌*◌, Bool, true, false, is_some, List}
 use Rattle.std.proofs.Common.{refl, sym, subst, inl, inr}
-use Rattle.exact_algebra.specs.Fraction.{rational}
+use Rattle.rational_laws.specs.Fraction.{rational}
 use Rattle.frac_core.specs.declared.frac128.Frac128.{Frac128}
 use Rattle.frac_core.specs.Values.{value}
 use Rattle.loss_model.specs.declared.problem.Problem.{Problem}
@@ -10,15 +10,15 @@ use Rattle.loss_model.specs.declared.spill.Spill.{Spill}
 use Rattle.loss_model.specs.declared.stop.Stop.TheVariants as stops
 use Rattle.loss_model.specs.FullRank.{HasFullRank}
 use Rattle.loss_model.specs.Problem.{sample}
-use Rattle.pivot_rule.specs.Duals.{HasCosts}
-use Rattle.walk_rule.specs.WalkTrails.{ReachesProcessLimit, ReachesIntervalLimit}
-use Rattle.pivot_bound.specs.BoundLaws.{further_bases}
+use Rattle.pivot_model.specs.Duals.{HasCosts}
+use Rattle.walk_model.specs.WalkTrails.{ReachesProcessLimit, ReachesIntervalLimit}
+use Rattle.pivot_laws.specs.BoundLaws.{further_bases}
 use Rattle.stop_laws.specs.NeededStops.{DoesOverflow}
 use Rattle.stop_laws.proofs.Needed.{below, dependent}
 use Rattle.stop_laws.proofs.Spilled.{of_process, start}
 use Rattle.stop_laws.proofs.IntervalsNeeded.{interval_needed}
 use Rattle.stop_laws.proofs.IntervalsSpilled.{of_interval}
-use Rattle.pivot_bound.proofs.Bounds.{process_within}
+use Rattle.pivot_laws.proofs.Bounds.{process_within}
 use Rattle.lambda_path.specs.Laws.{PathHasCosts}
 use Rattle.nested_test.specs.Restricted.{restricted_problem}
 use Rattle.rank_inversion.specs.Stops.{IsBound}

@@ -2,8 +2,8 @@
 -- printed test says.
 use Rattle.std.specs.Prelude.{◌≡◌, ℕ, List, Some, length, pos, slice_index}
 use Rattle.std.proofs.Common.{arith, refl, sym, subst, ◌∙◌}
-use Rattle.exact_algebra.specs.Rational.{whole, ◌≤ℚ◌}
-use Rattle.exact_matrices.specs.Selections.{AreDistinct}
+use Rattle.rational_laws.specs.Rational.{whole, ◌≤ℚ◌}
+use Rattle.rational_laws.specs.Selections.{AreDistinct}
 use Rattle.frac_core.specs.declared.frac128.Frac128.{Frac128}
 use Rattle.frac_core.specs.Values.{value}
 use Rattle.loss_model.specs.declared.problem.Problem.{Problem}

@@ -11,8 +11,8 @@ use Rattle.loss_model.specs.declared.process.Segment.{Segment}
 use Rattle.loss_model.specs.Dual.{IsDataRow, rankscore}
 use Rattle.loss_model.specs.Problem.{sample, value_at}
 use Rattle.loss_model.specs.Segment.{dual_at}
-use Rattle.pivot_rule.proofs.Solved.{any_default}
-use Rattle.walk_rule.specs.Stays.{Stay, IsSegmentOf, AreSegmentsOf}
+use Rattle.pivot_model.proofs.Solved.{any_default}
+use Rattle.walk_model.specs.Stays.{Stay, IsSegmentOf, AreSegmentsOf}
 use Rattle.rankscores.specs.declared.pair.ScorePair.{ScorePair}
 use Rattle.rankscores.specs.Scores.{IsScored, row_score}
 use Rattle.quantile_laws.specs.Uniqueness.{IsInside, IsInsideBetween, ScoreIsInside, ScoresAreInside}

@@ -3,7 +3,7 @@ use Rattle.std.proofs.Common.{◌≡◌, ◌<◌, ◌+◌, ℕ, zero, suc, List,
 use Rattle.std.proofs.lemmas.List.{get_or-take, length-take}
 use Rattle.std.proofs.lemmas.Option.{get_or_from_slice_get, slice_get_within}
 use native.Mathlib.Decide.{dec_lt}
-use Rattle.exact_algebra.specs.Rational.{ℚ, ◌-ℚ◌, whole}
+use Rattle.rational_laws.specs.Rational.{ℚ, ◌-ℚ◌, whole}
 use Rattle.frac_core.specs.declared.arith.Arith.{Arith}
 use Rattle.frac_core.specs.declared.exact.Op.{Op}
 use Rattle.frac_core.specs.declared.exact.OpKind.TheVariants.{Sub}

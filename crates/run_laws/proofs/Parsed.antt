@@ -2,7 +2,7 @@
 use Rattle.std.proofs.Common.{◌≡◌, ◌≢◌, ℕ, List, map, Result, Ok, refl, sym, ap, subst, ◌∙◌}
 use Rattle.std.specs.List.Sorted.{IsStableByKey}
 use Rattle.std.specs.Ordering.{nat_cmp}
-use Rattle.exact_algebra.proofs.Lists.{same_lists}
+use Rattle.rational_laws.proofs.Lists.{same_lists}
 use Rattle.frac_core.proofs.Values.{same_number}
 use Rattle.formula_grammar.specs.Codes.{has_intercept, offsets_of, smooths_of}
 use Rattle.formula_grammar.specs.Faults.{IsFormula, NoFormulaHasFaults}

@@ -3,9 +3,9 @@ use Rattle.std.proofs.Common.{◌≡◌, ◌≤◌, ◌<◌, ◌-◌, ◌*◌, �
 use Rattle.std.proofs.Math.Nat.{dvd-mul_left, div-mul_cancel, mul-div_cancel, mul_comm}
 use Rattle.std.proofs.lemmas.Int.{unsigned_abs-mul}
 use Rattle.std.specs.Int.{◌∣◌}
-use Rattle.exact_algebra.specs.Fraction.{Fraction, rational}
-use Rattle.exact_algebra.specs.Rational.{ℚ, ◌*ℚ◌, whole}
-use Rattle.exact_algebra.proofs.Quotients.{cross_from, product_is}
+use Rattle.rational_laws.specs.Fraction.{Fraction, rational}
+use Rattle.rational_laws.specs.Rational.{ℚ, ◌*ℚ◌, whole}
+use Rattle.rational_laws.proofs.Quotients.{cross_from, product_is}
 use Rattle.frac_core.specs.Gcd.{gcd}
 use Rattle.frac_core.specs.GcdLaws.{dvd_from_coprime, gcd-mul, gcd_comm, quotient_pos}
 use Rattle.frac_core.specs.Overflow.{IsWithin, ReducesWithin}

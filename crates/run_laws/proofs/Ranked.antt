@@ -5,16 +5,16 @@ use Rattle.std.specs.declared.cmp.Ordering.{Ordering}
 use Rattle.std.specs.declared.cmp.Ordering.TheVariants.{Less, Equal as Same, Greater}
 use Rattle.std.proofs.lemmas.Int.{ints}
 use Rattle.std.proofs.lemmas.Bool.{eqb-true}
-use Rattle.exact_algebra.specs.Fraction.{rational}
-use Rattle.exact_algebra.specs.Order.{cmp_ℚ}
-use Rattle.exact_algebra.specs.Rational.{ℚ, ◌-ℚ◌, ◌*ℚ◌, neg_ℚ, whole, ◌≤ℚ◌}
-use Rattle.exact_algebra.specs.RationalSums.{sum_ℚ}
-use Rattle.exact_algebra.specs.Solver.{number, negated, ◌⊟◌, ◌⊠◌, v0, v1, v2}
-use Rattle.exact_algebra.proofs.OrderLaws.{cmp_ℚ-Less, cmp_ℚ-Equal, cmp_ℚ-Greater, le_from_not}
-use Rattle.exact_algebra.proofs.RationalLaws.{ring_ℚ, ≤ℚ_refl}
-use Rattle.exact_algebra.proofs.RationalSumLaws.{sum_ℚ-same, sum_ℚ-scale}
-use Rattle.exact_algebra.proofs.WholeNumbers.{le_from_whole}
-use Rattle.exact_algebra.proofs.Lists.{item_there}
+use Rattle.rational_laws.specs.Fraction.{rational}
+use Rattle.rational_laws.specs.Order.{cmp_ℚ}
+use Rattle.rational_laws.specs.Rational.{ℚ, ◌-ℚ◌, ◌*ℚ◌, neg_ℚ, whole, ◌≤ℚ◌}
+use Rattle.rational_laws.specs.RationalSums.{sum_ℚ}
+use Rattle.rational_laws.specs.Solver.{number, negated, ◌⊟◌, ◌⊠◌, v0, v1, v2}
+use Rattle.rational_laws.proofs.OrderLaws.{cmp_ℚ-Less, cmp_ℚ-Equal, cmp_ℚ-Greater, le_from_not}
+use Rattle.rational_laws.proofs.RationalLaws.{ring_ℚ, ≤ℚ_refl}
+use Rattle.rational_laws.proofs.RationalSumLaws.{sum_ℚ-same, sum_ℚ-scale}
+use Rattle.rational_laws.proofs.WholeNumbers.{le_from_whole}
+use Rattle.rational_laws.proofs.Lists.{item_there}
 use Rattle.frac_core.specs.declared.frac128.Frac128.{Frac128}
 use Rattle.frac_core.specs.Values.{value as value128}
 use Rattle.loss_model.specs.declared.problem.Problem.{Problem}
@@ -31,9 +31,9 @@ use Rattle.loss_model.specs.Problem.{value_at, sample}
 use Rattle.loss_model.specs.Sample.{Sample, up_cost, down_cost, fitted, residual}
 use Rattle.loss_model.specs.Strict.{◌<ℚ◌}
 use Rattle.loss_model.specs.Vertex.{dual_value, IsOn}
-use Rattle.rank_law.specs.Restricted.{IsFeasibleWithout, column_sum, projected, rank_bound, rank_statistic, squared_length}
-use Rattle.rank_law.specs.Shown.{IsRowAlong, IsStatedRay}
-use Rattle.rank_law.specs.Certified.{AreInOrder, MeetsConditions, MeetsHighBound, MeetsInside, MeetsLowBound, MeetsOutside, bound_of, length_of}
+use Rattle.rank_model.specs.Restricted.{IsFeasibleWithout, column_sum, projected, rank_bound, rank_statistic, squared_length}
+use Rattle.rank_model.specs.Shown.{IsRowAlong, IsStatedRay}
+use Rattle.rank_model.specs.Certified.{AreInOrder, MeetsConditions, MeetsHighBound, MeetsInside, MeetsLowBound, MeetsOutside, bound_of, length_of}
 use Rattle.cert_checker.specs.Formulas as formula
 use Rattle.cert_checker.specs.Formulas.{given, worth}
 use Rattle.cert_checker.specs.Tests.{Holds, ArePartsTrue, AreTrue, part}

@@ -5,12 +5,12 @@ use Rattle.std.specs.declared.cmp.Ordering.TheVariants.{Less}
 use Rattle.std.proofs.Common.{arith, refl, sym, ap, subst, ◌∙◌}
 use Rattle.std.proofs.lemmas.List.{length-map}
 use Rattle.std.proofs.lemmas.List.Elements.{All-head, All-tail, All-cons, All-nil}
-use Rattle.exact_algebra.specs.Rational.{ℚ, neg_ℚ, whole}
-use Rattle.exact_algebra.specs.Fraction.{rational}
-use Rattle.exact_algebra.specs.Order.{cmp_ℚ}
-use Rattle.exact_algebra.proofs.Inverses.{one-zero}
-use Rattle.exact_matrices.specs.Terms.{delta}
-use Rattle.exact_matrices.proofs.TermLaws.{sum_ℚ-delta}
+use Rattle.rational_laws.specs.Rational.{ℚ, neg_ℚ, whole}
+use Rattle.rational_laws.specs.Fraction.{rational}
+use Rattle.rational_laws.specs.Order.{cmp_ℚ}
+use Rattle.rational_laws.proofs.Inverses.{one-zero}
+use Rattle.rational_laws.specs.Terms.{delta}
+use Rattle.rational_laws.proofs.TermLaws.{sum_ℚ-delta}
 use Rattle.frac_core.specs.declared.frac128.Frac128.{Frac128}
 use Rattle.frac_core.specs.Values.{exact, value}
 use Rattle.contrasts.specs.declared.Coding.{Coding}

@@ -4,8 +4,8 @@ use Rattle.std.specs.List.{AllZip, range_with_len}
 use Rattle.std.proofs.lemmas.List.{length-append, length-map}
 use Rattle.std.proofs.lemmas.List.FromFn.{length-range_with_len}
 use Rattle.std.proofs.lemmas.List.Elements.{All-cons, All-nil}
-use Rattle.exact_algebra.specs.Fraction.{rational}
-use Rattle.exact_algebra.specs.Rational.{ℚ}
+use Rattle.rational_laws.specs.Fraction.{rational}
+use Rattle.rational_laws.specs.Rational.{ℚ}
 use Rattle.frac_core.specs.declared.frac128.Frac128.{Frac128}
 use Rattle.frac_core.specs.Values.{exact, value}
 use Rattle.loss_model.specs.declared.interval.Bound.{Bound}
@@ -19,13 +19,13 @@ use Rattle.loss_model.specs.declared.problem.Problem.{Problem}
 use Rattle.loss_model.specs.declared.process.Segment.{Segment}
 use Rattle.loss_model.specs.declared.vertex.Vertex.{Vertex}
 use Rattle.loss_model.specs.Problem.{sample, IsWellShaped}
-use Rattle.pivot_rule.specs.declared.direction.Direction.{Direction}
-use Rattle.pivot_rule.specs.Duals.{HasCosts}
-use Rattle.pivot_rule.specs.Trails.{AtBasis}
-use Rattle.rank_walk.specs.Ends.{IsEndAt, IsHandedOut}
-use Rattle.rank_walk.specs.Intervals.{stated, statement}
-use Rattle.rank_walk.specs.RankWalks.{Way}
-use Rattle.rank_walk.proofs.Intervals.{conditions, stated_each}
+use Rattle.pivot_model.specs.declared.direction.Direction.{Direction}
+use Rattle.pivot_model.specs.Duals.{HasCosts}
+use Rattle.pivot_model.specs.Trails.{AtBasis}
+use Rattle.rank_walk_model.specs.Ends.{IsEndAt, IsHandedOut}
+use Rattle.rank_walk_model.specs.Intervals.{stated, statement}
+use Rattle.rank_walk_model.specs.RankWalks.{Way}
+use Rattle.rank_walk_model.proofs.Intervals.{conditions, stated_each}
 use Rattle.rq_engine.specs.Asked.{Asked}
 use Rattle.cert_text.specs.Laws.{SameContent}
 use Rattle.cert_text.specs.Limits.{IsWithinLimits}

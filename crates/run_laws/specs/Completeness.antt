@@ -1,6 +1,6 @@
 -- Law. A job whose input is well formed is answered, and a certificate whose conditions are true.
 use Rattle.std.specs.Prelude.{◌≡◌, ◌⊎◌, ℕ, ◌*◌, ◌<◌, ◌≤◌, Bool, false, List, [], Some, length, ⊤}
-use Rattle.exact_algebra.specs.Fraction.{rational}
+use Rattle.rational_laws.specs.Fraction.{rational}
 use Rattle.frac_core.specs.Limits.{most_rows}
 use Rattle.frac_core.specs.declared.frac128.Frac128.{Frac128}
 use Rattle.frac_core.specs.Values.{value}
@@ -12,7 +12,7 @@ use Rattle.loss_model.specs.Problem.{sample}
 use Rattle.loss_model.specs.StartStop.{IsStartSpill}
 use Rattle.port_io.specs.Counts.{Rose}
 use Rattle.port_io.specs.Told.{most_bytes}
-use Rattle.pivot_bound.specs.BoundLaws.{further_bases}
+use Rattle.pivot_laws.specs.BoundLaws.{further_bases}
 use Rattle.tau_process.specs.Stops.{IsLimited}
 use Rattle.lambda_path.specs.Faults.{row_count}
 use Rattle.cert_text.specs.declared.cert.Cert.{Cert}

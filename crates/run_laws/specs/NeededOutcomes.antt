@@ -1,8 +1,8 @@
 -- Law. A run that stops for a limit, for dependent columns or for a certificate that is too long had to; what overflows is an
 -- operation on the printed operands.
 use Rattle.std.specs.Prelude.{◌≡◌, ◌⊎◌, ℕ, ◌*◌, ◌<◌, Bool, true, false, is_some, List, Some, ⊤}
-use Rattle.exact_algebra.specs.Fraction.{rational}
-use Rattle.exact_algebra.specs.Rational.{ℚ}
+use Rattle.rational_laws.specs.Fraction.{rational}
+use Rattle.rational_laws.specs.Rational.{ℚ}
 use Rattle.frac_core.specs.declared.frac128.Frac128.{Frac128}
 use Rattle.frac_core.specs.Values.{value}
 use Rattle.loss_model.specs.declared.problem.Problem.{Problem}
@@ -10,8 +10,8 @@ use Rattle.loss_model.specs.declared.process.Trail.{Trail}
 use Rattle.loss_model.specs.declared.spill.Spill.{Spill}
 use Rattle.loss_model.specs.FullRank.{HasFullRank}
 use Rattle.loss_model.specs.Problem.{sample}
-use Rattle.walk_rule.specs.WalkTrails.{ReachesProcessLimit, ReachesIntervalLimit}
-use Rattle.pivot_bound.specs.BoundLaws.{further_bases}
+use Rattle.walk_model.specs.WalkTrails.{ReachesProcessLimit, ReachesIntervalLimit}
+use Rattle.pivot_laws.specs.BoundLaws.{further_bases}
 use Rattle.stop_laws.specs.NeededStops.{DoesOverflow}
 use Rattle.rank_inversion.specs.Stops.{IsBound}
 use Rattle.nested_test.specs.Restricted.{restricted_problem}

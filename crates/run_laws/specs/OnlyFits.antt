@@ -1,7 +1,7 @@
 -- Law. Where no other coefficients lose as little as those of a printed fit (Koenker 2005, section 2.2.2).
 use Rattle.std.specs.Prelude.{◌≡◌, ◌≢◌, ◌<◌, ℕ, List, All, pos}
 use Rattle.std.specs.List.{AllZip}
-use Rattle.exact_algebra.specs.Rational.{whole}
+use Rattle.rational_laws.specs.Rational.{whole}
 use Rattle.frac_core.specs.declared.frac128.Frac128.{Frac128}
 use Rattle.frac_core.specs.Values.{value}
 use Rattle.loss_model.specs.declared.process.Segment.{Segment}

@@ -1,7 +1,7 @@
 -- Inner. What makes the conditions on a certificate true.
 use Rattle.std.specs.Prelude.{◌≡◌, ℕ, ◌<◌, List, All, length, pos}
-use Rattle.exact_algebra.specs.Fraction.{rational}
-use Rattle.exact_algebra.specs.Rational.{ℚ, whole, ◌≤ℚ◌}
+use Rattle.rational_laws.specs.Fraction.{rational}
+use Rattle.rational_laws.specs.Rational.{ℚ, whole, ◌≤ℚ◌}
 use Rattle.frac_core.specs.declared.frac128.Frac128.{Frac128}
 use Rattle.frac_core.specs.Values.{value as value128}
 use Rattle.loss_model.specs.declared.problem.Problem.{Problem}
@@ -14,7 +14,7 @@ use Rattle.loss_model.specs.Problem.{value_at, sample, IsWellShaped}
 use Rattle.loss_model.specs.Sample.{loss, up_cost, down_cost}
 use Rattle.loss_model.specs.Segment.{Covers, segments_of}
 use Rattle.loss_model.specs.Vertex.{dual_value, IsVertexOf}
-use Rattle.rank_law.specs.Certified.{MeetsConditions}
+use Rattle.rank_model.specs.Certified.{MeetsConditions}
 use Rattle.cert_text.specs.declared.cert.Cert.{Cert}
 use Rattle.cert_checker.specs.Intervals.{beyond_list}
 

@@ -1,7 +1,7 @@
 -- Law. Which other responses leave the segments of a printed report as they are (Koenker 2005, chapter 2, on robustness).
 use Rattle.std.specs.Prelude.{◌<◌, ℕ, List, length, slice_get}
 use Rattle.std.specs.Option.{option_map_or}
-use Rattle.exact_algebra.specs.Rational.{ℚ}
+use Rattle.rational_laws.specs.Rational.{ℚ}
 use Rattle.frac_core.specs.declared.frac128.Frac128.{Frac128}
 use Rattle.frac_core.specs.Values.{value}
 use Rattle.loss_model.specs.declared.problem.Problem.{Problem}

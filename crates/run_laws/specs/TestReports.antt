@@ -1,7 +1,7 @@
 -- Law. What a printed rank test says.
 use Rattle.std.specs.Prelude.{ℕ, List, length, pos, slice_index}
-use Rattle.exact_algebra.specs.Fraction.{Fraction, rational}
-use Rattle.exact_algebra.specs.Rational.{whole, ◌≤ℚ◌}
+use Rattle.rational_laws.specs.Fraction.{Fraction, rational}
+use Rattle.rational_laws.specs.Rational.{whole, ◌≤ℚ◌}
 use Rattle.frac_core.specs.Values.{value}
 use Rattle.loss_model.specs.Problem.{sample, value_at}
 use Rattle.nested_test.specs.Nested.{column_score, AreScores, IsNestedStatistic}

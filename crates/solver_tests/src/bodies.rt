@@ -1,9 +1,9 @@
 //! Both bodies of the tableau on drawn problems: whole numbers refuse none of them whose columns are independent, and give
 //! the same walk as fractions.
 
-ghost use Rattle.exact_algebra.specs.Fraction.{rational};
-ghost use Rattle.exact_algebra.specs.Rational.{◌≤ℚ◌};
-ghost use Rattle.pivot_rule.specs.Duals.{HasCosts};
+ghost use Rattle.rational_laws.specs.Fraction.{rational};
+ghost use Rattle.rational_laws.specs.Rational.{◌≤ℚ◌};
+ghost use Rattle.pivot_model.specs.Duals.{HasCosts};
 ghost use Rattle.tableau_model.specs.Places.{sample_of};
 ghost use Rattle.tableau.specs.Bodies.{place_of};
 ghost use Rattle.tableau.specs.Solving.{IsBegun};

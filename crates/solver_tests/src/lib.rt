@@ -1,6 +1,6 @@
 //! Tests of the solver: inverses of bases (`basis_inverse`), the order of ties (`lex_rule`), basic
 //! solutions (`basic_solution`), pivots at one quantile (`br_pivot`), walks over a range
-//! (`tau_process`), how many pivots these need (`pivot_bound`), rank intervals, and whole numbers.
+//! (`tau_process`), how many pivots these need (`pivot_laws`), rank intervals, and whole numbers.
 //!
 //! Cases worked by hand stand beside drawn ones, which are compared with a plain computation that is
 //! no part of the program.

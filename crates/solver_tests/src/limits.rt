@@ -1,5 +1,5 @@
 //! Two hundred drawn tables of one or two columns and two to five rows, under limits at, above and one below what each needs, and at the
-//! number of bases (`pivot_bound`, `br_pivot`, `tau_process`).
+//! number of bases (`pivot_laws`, `br_pivot`, `tau_process`).
 //!
 //! What a table needs was worked out by the definitions of the pivot rule in fractions, apart from the program.
 

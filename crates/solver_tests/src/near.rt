@@ -1,8 +1,8 @@
 //! Rows near the fit alone are looked at in nearly all steps. No clause says so: a body that looks at all rows in each step keeps
 //! them all.
 
-ghost use Rattle.exact_algebra.specs.Fraction.{rational};
-ghost use Rattle.pivot_rule.specs.Duals.{HasCosts};
+ghost use Rattle.rational_laws.specs.Fraction.{rational};
+ghost use Rattle.pivot_model.specs.Duals.{HasCosts};
 ghost use Rattle.tableau_model.specs.Places.{sample_of};
 ghost use Rattle.tableau.specs.Bodies.{place_of};
 ghost use Rattle.tableau.specs.Solving.{IsBegun};

@@ -1,16 +1,16 @@
 -- Each stop of a rank interval was needed.
 use Rattle.std.specs.Prelude.{ℕ, ◌*◌, ◌<◌}
 use Rattle.std.proofs.Common.{sym, subst}
-use Rattle.exact_algebra.specs.Fraction.{Fraction}
-use Rattle.exact_algebra.specs.Rational.{ℚ}
+use Rattle.rational_laws.specs.Fraction.{Fraction}
+use Rattle.rational_laws.specs.Rational.{ℚ}
 use Rattle.loss_model.specs.declared.problem.Problem.{Problem}
 use Rattle.loss_model.specs.declared.stop.Stop.{Stop}
 use Rattle.loss_model.specs.declared.stop.Stop.TheVariants.{OutOfMemory, PivotLimit, Overflow, Dependent}
 use Rattle.loss_model.specs.Problem.{sample}
-use Rattle.pivot_rule.specs.Duals.{HasCosts}
-use Rattle.walk_rule.specs.WalkTrails.{ReachesIntervalLimit}
-use Rattle.pivot_bound.specs.BoundLaws.{further_bases}
-use Rattle.pivot_bound.proofs.Bounds.{interval_within}
+use Rattle.pivot_model.specs.Duals.{HasCosts}
+use Rattle.walk_model.specs.WalkTrails.{ReachesIntervalLimit}
+use Rattle.pivot_laws.specs.BoundLaws.{further_bases}
+use Rattle.pivot_laws.proofs.Bounds.{interval_within}
 use Rattle.stop_laws.specs.NeededStops.{IsNeeded}
 use Rattle.stop_laws.proofs.Needed.{below, dependent}
 use Rattle.rank_inversion.specs.Stops.{IsIntervalStop}

@@ -1,19 +1,19 @@
 -- Where a rank interval stops for an overflow, the operation overflows.
 use Rattle.std.specs.Prelude.{◌⊎◌, ℕ, List, slice_index}
 use Rattle.std.proofs.Common.{inl, inr}
-use Rattle.exact_algebra.specs.Fraction.{Fraction}
-use Rattle.exact_algebra.specs.Rational.{ℚ, inverse}
+use Rattle.rational_laws.specs.Fraction.{Fraction}
+use Rattle.rational_laws.specs.Rational.{ℚ, inverse}
 use Rattle.loss_model.specs.declared.problem.Problem.{Problem}
 use Rattle.loss_model.specs.declared.process.Trail.{Trail}
 use Rattle.loss_model.specs.declared.spill.Spill.{Spill}
 use Rattle.loss_model.specs.Problem.{sample}
 use Rattle.loss_model.specs.Sample.{Sample}
-use Rattle.pivot_rule.specs.declared.direction.Direction.{Direction}
-use Rattle.walk_rule.specs.Families.{Family}
-use Rattle.walk_rule.specs.WalkTrails.{is_within}
-use Rattle.walk_rule.specs.WalkSpills.{IsTestedCrossingSpill, IsTestedSpill, of_basis, of_dual, of_cost, of_crossing, of_entered, of_break, of_pivot}
-use Rattle.rank_walk.specs.RankWalks.{Way, tested}
-use Rattle.rank_walk.specs.Crossings.{parameter_of}
+use Rattle.pivot_model.specs.declared.direction.Direction.{Direction}
+use Rattle.walk_model.specs.Families.{Family}
+use Rattle.walk_model.specs.WalkTrails.{is_within}
+use Rattle.walk_model.specs.WalkSpills.{IsTestedCrossingSpill, IsTestedSpill, of_basis, of_dual, of_cost, of_crossing, of_entered, of_break, of_pivot}
+use Rattle.rank_walk_model.specs.RankWalks.{Way, tested}
+use Rattle.rank_walk_model.specs.Crossings.{parameter_of}
 use Rattle.stop_laws.specs.NeededStops.{DoesOverflow}
 use Rattle.stop_laws.proofs.Spilled.{operation, term, products, start, basis, cost, step, pivot}
 use Rattle.rank_inversion.specs.Grams.{IsBeforeGram, IsProjectingSpill}

@@ -2,8 +2,8 @@
 use Rattle.std.specs.Prelude.{◌⊎◌, ℕ, ◌*◌, ◌<◌, ◌≤◌, slice_index}
 use Rattle.std.proofs.Common.{sym, subst, inl, inr}
 use Rattle.std.proofs.lemmas.Bool.{cases_lt}
-use Rattle.exact_algebra.specs.Fraction.{Fraction}
-use Rattle.exact_algebra.specs.Rational.{ℚ}
+use Rattle.rational_laws.specs.Fraction.{Fraction}
+use Rattle.rational_laws.specs.Rational.{ℚ}
 use Rattle.loss_model.specs.declared.problem.Problem.{Problem}
 use Rattle.loss_model.specs.declared.process.Trail.{Trail}
 use Rattle.loss_model.specs.declared.stop.Stop.{Stop}
@@ -11,14 +11,14 @@ use Rattle.loss_model.specs.declared.stop.Stop.TheVariants.{OutOfMemory, PivotLi
 use Rattle.loss_model.specs.FullRank.{HasFullRank, IsDependence}
 use Rattle.loss_model.specs.Problem.{sample}
 use Rattle.loss_model.specs.Sample.{Sample}
-use Rattle.pivot_rule.specs.Duals.{HasCosts}
-use Rattle.pivot_rule.specs.Trails.{ReachesLimit}
-use Rattle.pivot_rule.proofs.Solved.{full_rank}
-use Rattle.walk_rule.specs.WalkTrails.{ReachesProcessLimit}
+use Rattle.pivot_model.specs.Duals.{HasCosts}
+use Rattle.pivot_model.specs.Trails.{ReachesLimit}
+use Rattle.pivot_model.proofs.Solved.{full_rank}
+use Rattle.walk_model.specs.WalkTrails.{ReachesProcessLimit}
 use Rattle.tau_process.specs.Solves.{IsSolveStop}
 use Rattle.tau_process.specs.Stops.{IsProcessStop}
-use Rattle.pivot_bound.specs.BoundLaws.{further_bases}
-use Rattle.pivot_bound.proofs.Bounds.{solve_within, process_within}
+use Rattle.pivot_laws.specs.BoundLaws.{further_bases}
+use Rattle.pivot_laws.proofs.Bounds.{solve_within, process_within}
 use Rattle.stop_laws.specs.NeededStops.{IsNeeded}
 use Rattle.stop_laws.proofs.Spilled.{of_solve, of_process}
 

@@ -1,8 +1,8 @@
 -- Where a spill has its cause, the operation that it names overflows.
 use Rattle.std.specs.Prelude.{◌⊎◌, ℕ, Bool, List, [], ◌∷◌}
 use Rattle.std.proofs.Common.{sym, subst, inl, inr}
-use Rattle.exact_algebra.specs.Fraction.{Fraction}
-use Rattle.exact_algebra.specs.Rational.{ℚ}
+use Rattle.rational_laws.specs.Fraction.{Fraction}
+use Rattle.rational_laws.specs.Rational.{ℚ}
 use Rattle.frac_core.specs.Overflow.{Overflows}
 use Rattle.loss_model.specs.declared.problem.Problem.{Problem}
 use Rattle.loss_model.specs.declared.process.Trail.{Trail}
@@ -17,13 +17,13 @@ use Rattle.basis_model.specs.Perturbed.{Nonbasic}
 use Rattle.basis_model.specs.RatioSpill.{IsRatioEntrySpill, IsRatioSpill}
 use Rattle.basis_model.specs.Basis.{coefficient}
 use Rattle.basis_model.specs.BasisSpills.{IsBasisSpill}
-use Rattle.pivot_rule.specs.declared.direction.Direction.{Direction}
-use Rattle.pivot_rule.specs.declared.direction.Direction.TheVariants.{Upward, Downward}
-use Rattle.pivot_rule.specs.Spills.{IsCostSpill, IsFirstSlopeSpill, IsSearchSpill, of_cost_sum, of_passing, of_ratio, of_tie, IsStepSpill, of_basis, of_dual, of_cost, of_slope, of_search, of_exchange}
-use Rattle.walk_rule.specs.Families.{Family, over_quantiles}
-use Rattle.walk_rule.specs.WalkTrails.{is_below}
-use Rattle.walk_rule.specs.WalkSpills.{IsCrossingSpill, IsPivotSpill, of_ratio as at_ratio, of_tie as at_tie, of_exchange as at_exchange, IsEndSpill, of_dual as at_dual, of_cost as at_cost}
-use Rattle.walk_rule.specs.WalkSpills.{of_loss as at_loss, IsStaySpill, of_basis as at_basis, of_crossing, of_lo, of_hi, of_pivot}
+use Rattle.pivot_model.specs.declared.direction.Direction.{Direction}
+use Rattle.pivot_model.specs.declared.direction.Direction.TheVariants.{Upward, Downward}
+use Rattle.pivot_model.specs.Spills.{IsCostSpill, IsFirstSlopeSpill, IsSearchSpill, of_cost_sum, of_passing, of_ratio, of_tie, IsStepSpill, of_basis, of_dual, of_cost, of_slope, of_search, of_exchange}
+use Rattle.walk_model.specs.Families.{Family, over_quantiles}
+use Rattle.walk_model.specs.WalkTrails.{is_below}
+use Rattle.walk_model.specs.WalkSpills.{IsCrossingSpill, IsPivotSpill, of_ratio as at_ratio, of_tie as at_tie, of_exchange as at_exchange, IsEndSpill, of_dual as at_dual, of_cost as at_cost}
+use Rattle.walk_model.specs.WalkSpills.{of_loss as at_loss, IsStaySpill, of_basis as at_basis, of_crossing, of_lo, of_hi, of_pivot}
 use Rattle.tau_process.specs.Solves.{IsSolveSpill}
 use Rattle.tau_process.specs.Stops.{IsProcessSpill}
 use Rattle.stop_laws.specs.NeededStops.{DoesOverflow}

@@ -1,12 +1,12 @@
 -- Law. A stop of a rank interval was needed.
 use Rattle.std.specs.Prelude.{ℕ, ◌*◌, ◌<◌}
-use Rattle.exact_algebra.specs.Fraction.{Fraction}
-use Rattle.exact_algebra.specs.Rational.{ℚ}
+use Rattle.rational_laws.specs.Fraction.{Fraction}
+use Rattle.rational_laws.specs.Rational.{ℚ}
 use Rattle.loss_model.specs.declared.problem.Problem.{Problem}
 use Rattle.loss_model.specs.declared.stop.Stop.{Stop}
 use Rattle.loss_model.specs.Problem.{sample}
-use Rattle.pivot_rule.specs.Duals.{HasCosts}
-use Rattle.pivot_bound.specs.BoundLaws.{further_bases}
+use Rattle.pivot_model.specs.Duals.{HasCosts}
+use Rattle.pivot_laws.specs.BoundLaws.{further_bases}
 use Rattle.stop_laws.specs.NeededStops.{IsNeeded}
 use Rattle.rank_inversion.specs.Stops.{IsIntervalStop}
 

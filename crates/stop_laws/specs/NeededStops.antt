@@ -1,7 +1,7 @@
 -- Law. A stop of the solver was needed.
 use Rattle.std.specs.Prelude.{ℕ, ◌*◌, ◌<◌, ⊤}
-use Rattle.exact_algebra.specs.Fraction.{Fraction}
-use Rattle.exact_algebra.specs.Rational.{ℚ}
+use Rattle.rational_laws.specs.Fraction.{Fraction}
+use Rattle.rational_laws.specs.Rational.{ℚ}
 use Rattle.frac_core.specs.Overflow.{Overflows}
 use Rattle.loss_model.specs.declared.problem.Problem.{Problem}
 use Rattle.loss_model.specs.declared.spill.Spill.{Spill}
@@ -9,10 +9,10 @@ use Rattle.loss_model.specs.declared.stop.Stop.{Stop}
 use Rattle.loss_model.specs.declared.stop.Stop.TheVariants.{OutOfMemory, PivotLimit, Overflow, Dependent}
 use Rattle.loss_model.specs.FullRank.{HasFullRank}
 use Rattle.loss_model.specs.Problem.{sample}
-use Rattle.pivot_rule.specs.Duals.{HasCosts}
+use Rattle.pivot_model.specs.Duals.{HasCosts}
 use Rattle.tau_process.specs.Solves.{IsSolveStop, IsLimited}
 use Rattle.tau_process.specs.Stops.{IsProcessStop, IsLimited as IsProcessLimited}
-use Rattle.pivot_bound.specs.BoundLaws.{further_bases}
+use Rattle.pivot_laws.specs.BoundLaws.{further_bases}
 
 -- the operation that a spill names overflows on its operands
 abbrev pub DoesOverflow : {F : Type 0} → (F → Fraction) → ℕ → Spill F → Type 0

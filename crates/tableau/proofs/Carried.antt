@@ -2,31 +2,31 @@
 use Rattle.std.specs.Prelude.{◌≡◌, ℕ, ◌<◌, ◌-◌, List, [], ◌∷◌, ◌++◌, length, slice_get, slice_index, slice_set, Contains, Option, Some, None, IfSome, pos}
 use Rattle.std.proofs.Common.{arith, refl, sym, ap, subst, ◌∙◌}
 use Rattle.std.proofs.lemmas.List.{length_push}
-use Rattle.exact_algebra.specs.Fraction.{Fraction, rational}
-use Rattle.exact_algebra.specs.Rational.{ℚ, whole, ◌≤ℚ◌}
-use Rattle.exact_algebra.proofs.RationalLaws.{≤ℚ_refl, ≤ℚ_trans}
-use Rattle.exact_algebra.proofs.OrderLaws.{le_from_not}
-use Rattle.exact_algebra.proofs.Lists.{pushed_last, contains_item}
+use Rattle.rational_laws.specs.Fraction.{Fraction, rational}
+use Rattle.rational_laws.specs.Rational.{ℚ, whole, ◌≤ℚ◌}
+use Rattle.rational_laws.proofs.RationalLaws.{≤ℚ_refl, ≤ℚ_trans}
+use Rattle.rational_laws.proofs.OrderLaws.{le_from_not}
+use Rattle.rational_laws.proofs.Lists.{pushed_last, contains_item}
 use Rattle.loss_model.specs.declared.process.Exchange.{Exchange}
 use Rattle.loss_model.specs.declared.process.Segment.{Segment}
 use Rattle.loss_model.specs.Sample.{Sample}
 use Rattle.loss_model.specs.Dual.{IsDual}
 use Rattle.loss_model.specs.Problem.{value_at, sample}
 use Rattle.basis_model.specs.Basis.{IsBasis, coefficient}
-use Rattle.pivot_rule.specs.Duals.{HasCosts, dual}
-use Rattle.pivot_rule.specs.Steps.{HasNoNegativeSlope}
-use Rattle.pivot_rule.specs.Results.{IsVertexAt, AreBasicDuals}
-use Rattle.pivot_rule.proofs.Optimal.{optimal}
-use Rattle.pivot_rule.proofs.Solved.{any_default, same_dual}
-use Rattle.pivot_rule.proofs.Unique.{same_inverse}
-use Rattle.walk_rule.specs.Families.{Family, over_quantiles, IsOptimalIn}
-use Rattle.walk_rule.specs.Stays.{IsSegmentOf}
-use Rattle.walk_rule.specs.Underway.{IsUnderway}
-use Rattle.walk_rule.specs.Walks.{AreExchanged, IsWalkingStep}
-use Rattle.walk_rule.specs.WalkTrails.{is_below}
-use Rattle.walk_rule.proofs.Slopes.{slope_is, dual_is, optimal_to, none_before, costs_between}
-use Rattle.walk_rule.proofs.Stays.{duals_stay, optimal_stays}
-use Rattle.walk_rule.proofs.Trails.{list_exchanged, below_from}
+use Rattle.pivot_model.specs.Duals.{HasCosts, dual}
+use Rattle.pivot_model.specs.Steps.{HasNoNegativeSlope}
+use Rattle.pivot_model.specs.Results.{IsVertexAt, AreBasicDuals}
+use Rattle.pivot_model.proofs.Optimal.{optimal}
+use Rattle.pivot_model.proofs.Solved.{any_default, same_dual}
+use Rattle.pivot_model.proofs.Unique.{same_inverse}
+use Rattle.walk_model.specs.Families.{Family, over_quantiles, IsOptimalIn}
+use Rattle.walk_model.specs.Stays.{IsSegmentOf}
+use Rattle.walk_model.specs.Underway.{IsUnderway}
+use Rattle.walk_model.specs.Walks.{AreExchanged, IsWalkingStep}
+use Rattle.walk_model.specs.WalkTrails.{is_below}
+use Rattle.walk_model.proofs.Slopes.{slope_is, dual_is, optimal_to, none_before, costs_between}
+use Rattle.walk_model.proofs.Stays.{duals_stay, optimal_stays}
+use Rattle.walk_model.proofs.Trails.{list_exchanged, below_from}
 use Rattle.tableau_model.specs.Places.{Place, Task}
 use Rattle.whole_tableau.specs.Ends.{IsCarried}
 

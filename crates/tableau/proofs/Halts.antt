@@ -1,16 +1,16 @@
 -- What a refused step, and a step at the limit, say of a solve; and what a halt says of its stop.
 use Rattle.std.specs.Prelude.{◌≡◌, ℕ, ◌≤◌, length, Some}
 use Rattle.std.proofs.Common.{refl, sym, subst}
-use Rattle.exact_algebra.specs.Fraction.{Fraction}
-use Rattle.exact_algebra.specs.Rational.{ℚ}
+use Rattle.rational_laws.specs.Fraction.{Fraction}
+use Rattle.rational_laws.specs.Rational.{ℚ}
 use Rattle.loss_model.specs.declared.process.Trail.{Trail}
 use Rattle.loss_model.specs.declared.spill.Spill.{Spill}
 use Rattle.loss_model.specs.declared.stop.Stop.{Stop}
 use Rattle.loss_model.specs.declared.stop.Stop.TheVariants.{OutOfMemory as StopForMemory, PivotLimit as StopAtLimit, Overflow as StopByOverflow}
 use Rattle.loss_model.specs.Problem.{sample}
-use Rattle.pivot_rule.specs.Spills.{IsStepSpill}
-use Rattle.pivot_rule.specs.Steps.{IsSolvingStep}
-use Rattle.pivot_rule.specs.Trails.{AtBasis, IsSolvingTrail, ReachesLimit}
+use Rattle.pivot_model.specs.Spills.{IsStepSpill}
+use Rattle.pivot_model.specs.Steps.{IsSolvingStep}
+use Rattle.pivot_model.specs.Trails.{AtBasis, IsSolvingTrail, ReachesLimit}
 use Rattle.tableau_model.specs.declared.refusal.Refusal.{Refusal}
 use Rattle.tableau_model.specs.declared.refusal.Refusal.TheVariants.{Overflow, TooWide}
 use Rattle.tableau_model.specs.declared.refusal.Failure.{Failure}

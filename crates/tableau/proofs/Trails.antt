@@ -1,14 +1,14 @@
 -- How a trail goes on.
 use Rattle.std.specs.Prelude.{◌≡◌, ℕ, List, [], ◌∷◌, ◌++◌, map, slice_index, slice_set, Some}
 use Rattle.std.proofs.Common.{refl, sym, ap, subst, ◌∙◌}
-use Rattle.exact_algebra.specs.Fraction.{Fraction, rational}
-use Rattle.exact_algebra.specs.Rational.{ℚ}
+use Rattle.rational_laws.specs.Fraction.{Fraction, rational}
+use Rattle.rational_laws.specs.Rational.{ℚ}
 use Rattle.loss_model.specs.declared.process.Exchange.{Exchange}
 use Rattle.loss_model.specs.declared.process.Trail.{Trail}
 use Rattle.loss_model.specs.Sample.{Sample}
 use Rattle.loss_model.specs.Greedy.{IsGreedyBasis}
-use Rattle.pivot_rule.specs.Steps.{IsSolvingStep}
-use Rattle.pivot_rule.specs.Trails.{AtBasis, basis_after, AreSolvingSteps, IsSolvingTrail}
+use Rattle.pivot_model.specs.Steps.{IsSolvingStep}
+use Rattle.pivot_model.specs.Trails.{AtBasis, basis_after, AreSolvingSteps, IsSolvingTrail}
 
 after_more : {F : Type 0} (basis : List ℕ) (steps : List (Exchange F)) (s : Exchange F) → basis_after basis (steps ++ s ∷ []) ≡ slice_set (basis_after basis steps) s.position s.row
 after_more basis [] s = refl

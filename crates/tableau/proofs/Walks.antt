@@ -4,28 +4,28 @@ use Rattle.std.specs.Ordering.{is_lt}
 use Rattle.std.specs.declared.cmp.Ordering.{Ordering}
 use Rattle.std.specs.declared.cmp.Ordering.TheVariants.{Less, Equal, Greater}
 use Rattle.std.proofs.Common.{refl, sym, ap, subst, ◌∙◌, inl, inr, append_assoc, append-nil}
-use Rattle.exact_algebra.specs.Fraction.{Fraction, rational}
-use Rattle.exact_algebra.specs.Rational.{ℚ, ◌≤ℚ◌}
-use Rattle.exact_algebra.specs.Order.{cmp_ℚ}
-use Rattle.exact_algebra.proofs.OrderLaws.{cmp_ℚ-Less, cmp_ℚ-Equal, cmp_ℚ-Greater}
+use Rattle.rational_laws.specs.Fraction.{Fraction, rational}
+use Rattle.rational_laws.specs.Rational.{ℚ, ◌≤ℚ◌}
+use Rattle.rational_laws.specs.Order.{cmp_ℚ}
+use Rattle.rational_laws.proofs.OrderLaws.{cmp_ℚ-Less, cmp_ℚ-Equal, cmp_ℚ-Greater}
 use Rattle.loss_model.specs.declared.problem.Problem.{Problem}
 use Rattle.loss_model.specs.declared.process.Exchange.{Exchange}
 use Rattle.loss_model.specs.declared.process.Segment.{Segment}
 use Rattle.loss_model.specs.declared.process.Trail.{Trail}
 use Rattle.loss_model.specs.Problem.{sample}
 use Rattle.basis_model.specs.Basis.{IsBasis}
-use Rattle.pivot_rule.specs.Duals.{HasCosts, ◌<ℚ◌}
-use Rattle.pivot_rule.specs.Steps.{HasNoNegativeSlope}
-use Rattle.pivot_rule.specs.Trails.{EndsAt, basis_after, IsSolvingTrail, IsOptimalBasis}
-use Rattle.walk_rule.specs.Families.{over_quantiles, IsOptimalIn}
-use Rattle.walk_rule.specs.Stays.{IsSegmentOf, AreSegmentsOf, stays, is_reported}
-use Rattle.walk_rule.specs.Underway.{IsUnderway}
-use Rattle.walk_rule.specs.Walks.{IsWalkingStep}
-use Rattle.walk_rule.specs.WalkSpills.{IsStayEnd}
-use Rattle.walk_rule.specs.WalkTrails.{theta_value, is_below, HasWalkingStep, IsWalkEnd, IsProcessTrail, ReachesWalkLimit}
-use Rattle.walk_rule.proofs.Loops.{begins, with_segment, without_segment, done}
-use Rattle.walk_rule.proofs.Trails.{below_from}
-use Rattle.walk_rule.proofs.Walked.{end_reached}
+use Rattle.pivot_model.specs.Duals.{HasCosts, ◌<ℚ◌}
+use Rattle.pivot_model.specs.Steps.{HasNoNegativeSlope}
+use Rattle.pivot_model.specs.Trails.{EndsAt, basis_after, IsSolvingTrail, IsOptimalBasis}
+use Rattle.walk_model.specs.Families.{over_quantiles, IsOptimalIn}
+use Rattle.walk_model.specs.Stays.{IsSegmentOf, AreSegmentsOf, stays, is_reported}
+use Rattle.walk_model.specs.Underway.{IsUnderway}
+use Rattle.walk_model.specs.Walks.{IsWalkingStep}
+use Rattle.walk_model.specs.WalkSpills.{IsStayEnd}
+use Rattle.walk_model.specs.WalkTrails.{theta_value, is_below, HasWalkingStep, IsWalkEnd, IsProcessTrail, ReachesWalkLimit}
+use Rattle.walk_model.proofs.Loops.{begins, with_segment, without_segment, done}
+use Rattle.walk_model.proofs.Trails.{below_from}
+use Rattle.walk_model.proofs.Walked.{end_reached}
 use Rattle.tableau_model.specs.declared.refusal.Failure.{Failure}
 use Rattle.tableau_model.specs.declared.refusal.Failure.TheVariants.{OutOfMemory, Of}
 use Rattle.tableau_model.specs.Places.{Place, Task, at_of, sample_of}

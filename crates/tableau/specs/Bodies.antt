@@ -1,6 +1,6 @@
 -- Inner. The basis of a tableau, by its body.
 use Rattle.std.specs.Prelude.{◌≡◌, ℕ, List}
-use Rattle.exact_algebra.specs.Fraction.{Fraction}
+use Rattle.rational_laws.specs.Fraction.{Fraction}
 use Rattle.basis_inverse.specs.Square.{Square, inverse_entry}
 use Rattle.tableau_model.specs.Places.{Place}
 use Rattle.fraction_tableau.specs.Inverses.{IsInverseOf}

@@ -1,8 +1,8 @@
 -- Stated. Why a solve at one quantile stops, and when it reaches its limit.
 use Rattle.std.specs.Prelude.{◌≡◌, ◌⊎◌, ℕ, ◌≤◌, List, length, slice_index}
 use Rattle.std.proofs.Common.{Result, Ok, Err}
-use Rattle.exact_algebra.specs.Fraction.{Fraction}
-use Rattle.exact_algebra.specs.Rational.{ℚ}
+use Rattle.rational_laws.specs.Fraction.{Fraction}
+use Rattle.rational_laws.specs.Rational.{ℚ}
 use Rattle.loss_model.specs.declared.problem.Problem.{Problem}
 use Rattle.loss_model.specs.declared.process.Trail.{Trail}
 use Rattle.loss_model.specs.declared.spill.Spill.{Spill}
@@ -11,8 +11,8 @@ use Rattle.loss_model.specs.declared.stop.Stop.TheVariants.{OutOfMemory, PivotLi
 use Rattle.loss_model.specs.Sample.{Sample}
 use Rattle.loss_model.specs.Problem.{sample}
 use Rattle.loss_model.specs.StartStop.{IsStartSpill, IsDependent}
-use Rattle.pivot_rule.specs.Spills.{IsStepSpill}
-use Rattle.pivot_rule.specs.Trails.{AtBasis, IsSolvingTrail, ReachesLimit}
+use Rattle.pivot_model.specs.Spills.{IsStepSpill}
+use Rattle.pivot_model.specs.Trails.{AtBasis, IsSolvingTrail, ReachesLimit}
 
 -- an operation at the last basis of the lawful trail overflows
 pub record IsSolveSpill {F : Type 0} (value : F → Fraction) (range : ℕ) (p : Problem F) (theta : ℚ) (limit : ℕ) (trail : Trail F)

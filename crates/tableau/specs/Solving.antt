@@ -1,12 +1,12 @@
 -- Inner. A solve over a tableau: in its midst, at its end, and why it halts.
 use Rattle.std.specs.Prelude.{◌≡◌, ◌+◌, ◌≤◌, ℕ, Bool, true, false, length, Option, Some, None}
-use Rattle.exact_algebra.specs.Fraction.{Fraction}
-use Rattle.exact_algebra.specs.Rational.{ℚ}
+use Rattle.rational_laws.specs.Fraction.{Fraction}
+use Rattle.rational_laws.specs.Rational.{ℚ}
 use Rattle.loss_model.specs.declared.process.Trail.{Trail}
 use Rattle.loss_model.specs.declared.stop.Stop.{Stop}
 use Rattle.loss_model.specs.declared.stop.Stop.TheVariants.{OutOfMemory as StopForMemory, PivotLimit as StopAtLimit, Overflow as StopByOverflow}
 use Rattle.loss_model.specs.Problem.{sample}
-use Rattle.pivot_rule.specs.Trails.{IsSolvingTrail, ReachesLimit}
+use Rattle.pivot_model.specs.Trails.{IsSolvingTrail, ReachesLimit}
 use Rattle.tableau_model.specs.declared.refusal.Refusal.{Refusal}
 use Rattle.tableau_model.specs.declared.refusal.Refusal.TheVariants.{Overflow, TooWide}
 use Rattle.tableau_model.specs.declared.refusal.Failure.{Failure}

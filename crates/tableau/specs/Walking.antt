@@ -1,19 +1,19 @@
 -- Inner. A walk over quantiles by a tableau: what a step of it does, what it has done, and why it halts.
 use Rattle.std.specs.Prelude.{◌≡◌, ◌⊎◌, ◌≤◌, ℕ, ◌-◌, length, Bool, true, false, List, [], ◌∷◌, ◌++◌, map, filter, slice_get, slice_set, Some, IfSome}
-use Rattle.exact_algebra.specs.Fraction.{Fraction, rational}
-use Rattle.exact_algebra.specs.Rational.{ℚ}
+use Rattle.rational_laws.specs.Fraction.{Fraction, rational}
+use Rattle.rational_laws.specs.Rational.{ℚ}
 use Rattle.loss_model.specs.declared.process.Exchange.{Exchange}
 use Rattle.loss_model.specs.declared.process.Process.{Process}
 use Rattle.loss_model.specs.declared.process.Segment.{Segment}
 use Rattle.loss_model.specs.declared.process.Trail.{Trail}
 use Rattle.loss_model.specs.Problem.{sample}
 use Rattle.loss_model.specs.Greedy.{IsGreedyBasis}
-use Rattle.pivot_rule.specs.Duals.{◌<ℚ◌}
-use Rattle.pivot_rule.specs.Trails.{basis_after, AreSolvingSteps, IsOptimalBasis}
-use Rattle.walk_rule.specs.Families.{over_quantiles}
-use Rattle.walk_rule.specs.Stays.{stays, is_reported, AreSegmentsOf}
-use Rattle.walk_rule.specs.Underway.{IsUnderway}
-use Rattle.walk_rule.specs.WalkTrails.{theta_value, is_below, IsProcessTrail, IsWalkEnd, ReachesWalkLimit}
+use Rattle.pivot_model.specs.Duals.{◌<ℚ◌}
+use Rattle.pivot_model.specs.Trails.{basis_after, AreSolvingSteps, IsOptimalBasis}
+use Rattle.walk_model.specs.Families.{over_quantiles}
+use Rattle.walk_model.specs.Stays.{stays, is_reported, AreSegmentsOf}
+use Rattle.walk_model.specs.Underway.{IsUnderway}
+use Rattle.walk_model.specs.WalkTrails.{theta_value, is_below, IsProcessTrail, IsWalkEnd, ReachesWalkLimit}
 use Rattle.tableau_model.specs.declared.refusal.Refusal.{Refusal}
 use Rattle.tableau_model.specs.Places.{Place, Task, IsPlace, sample_of}
 use Rattle.tableau_model.specs.Questions.{walking}

@@ -1,11 +1,11 @@
 //! A basis as one of the two bodies keeps it, and what the loops ask of it.
 ghost use Rattle.std.specs.Prelude.{◌≡◌, ◌≢◌, ◌<◌, ℕ, IfOk, IfErr, IfSome, OnOk, length, option_copied, slice_set, pos};
-ghost use Rattle.exact_algebra.specs.Fraction.{rational};
-ghost use Rattle.exact_algebra.specs.Rational.{ℚ, whole};
+ghost use Rattle.rational_laws.specs.Fraction.{rational};
+ghost use Rattle.rational_laws.specs.Rational.{ℚ, whole};
 ghost use Rattle.basis_model.specs.Basis.{coord};
-ghost use Rattle.pivot_rule.specs.declared.direction.Direction.{Direction};
-ghost use Rattle.pivot_rule.specs.Duals.{HasCosts};
-ghost use Rattle.walk_rule.specs.Walks.{IsFirstMover};
+ghost use Rattle.pivot_model.specs.declared.direction.Direction.{Direction};
+ghost use Rattle.pivot_model.specs.Duals.{HasCosts};
+ghost use Rattle.walk_model.specs.Walks.{IsFirstMover};
 ghost use Rattle.tableau_model.specs.Places.{IsPlace, at_of, in_wholes, sample_of};
 ghost use Rattle.tableau_model.specs.Questions.{Question, solving, walking, IsStepOf};
 ghost use Rattle.tableau_model.specs.Refusals.{IsRefusalAt, IsRefusedOf};

@@ -1,10 +1,10 @@
 //! The solve at one quantile.
 ghost use Rattle.std.specs.Prelude.{◌≡◌, ℕ, ◌≤◌, length, map, Some, IfOk, IfErr, OnOk};
-ghost use Rattle.exact_algebra.specs.Fraction.{rational};
+ghost use Rattle.rational_laws.specs.Fraction.{rational};
 ghost use Rattle.loss_model.specs.Problem.{IsWellShaped};
 ghost use Rattle.loss_model.specs.Greedy.{IsGreedyBasis};
 ghost use Rattle.loss_model.specs.StartStop.{IsStartStop};
-ghost use Rattle.pivot_rule.specs.Duals.{HasCosts};
+ghost use Rattle.pivot_model.specs.Duals.{HasCosts};
 ghost use Rattle.tableau.specs.declared.solving.Halt.TheVariants.{PivotLimit};
 ghost use Rattle.tableau_model.specs.Places.{in_fractions, in_wholes, sample_of};
 ghost use Rattle.tableau_model.specs.Questions.{solving, IsStepOf};

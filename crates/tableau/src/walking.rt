@@ -1,9 +1,9 @@
 //! The walk over quantiles, from an optimal basis.
 ghost use Rattle.std.specs.Prelude.{◌≡◌, ◌++◌, ◌∷◌, [], ℕ, ◌≤◌, length, IfOk, IfErr, OnOk};
-ghost use Rattle.exact_algebra.specs.Fraction.{rational};
-ghost use Rattle.exact_algebra.specs.Rational.{ℚ, ◌≤ℚ◌};
-ghost use Rattle.pivot_rule.specs.Duals.{HasCosts};
-ghost use Rattle.walk_rule.specs.WalkSpills.{IsStayEnd};
+ghost use Rattle.rational_laws.specs.Fraction.{rational};
+ghost use Rattle.rational_laws.specs.Rational.{ℚ, ◌≤ℚ◌};
+ghost use Rattle.pivot_model.specs.Duals.{HasCosts};
+ghost use Rattle.walk_model.specs.WalkSpills.{IsStayEnd};
 ghost use Rattle.tableau_model.specs.declared.refusal.Failure.TheVariants.{OutOfMemory};
 ghost use Rattle.tableau_model.specs.Places.{at_of, sample_of};
 ghost use Rattle.tableau_model.specs.Questions.{walking};

@@ -1,9 +1,9 @@
 -- Inner. What the answers for a solve say at a basis.
 use Rattle.std.specs.Prelude.{Option, Some, None}
-use Rattle.exact_algebra.specs.Fraction.{Fraction}
-use Rattle.exact_algebra.specs.Rational.{ℚ}
-use Rattle.walk_rule.specs.Steps.{HasNoNegativeSlope, IsSolvingStep}
-use Rattle.walk_rule.specs.Results.{IsVertexAt, AreBasicDuals}
+use Rattle.rational_laws.specs.Fraction.{Fraction}
+use Rattle.rational_laws.specs.Rational.{ℚ}
+use Rattle.walk_model.specs.Steps.{HasNoNegativeSlope, IsSolvingStep}
+use Rattle.walk_model.specs.Results.{IsVertexAt, AreBasicDuals}
 use Rattle.tableau_model.specs.declared.answer.Step.{Step}
 use Rattle.tableau_model.specs.declared.answer.Fitted.{Fitted}
 use Rattle.tableau_model.specs.Places.{Place, at_of, sample_of}

@@ -1,12 +1,12 @@
 -- Inner. A basis of a problem, with its inverse, as one of two bodies keeps it.
 use Rattle.std.specs.Prelude.{◌≡◌, ℕ, List, length, slice_index}
-use Rattle.exact_algebra.specs.Fraction.{Fraction}
-use Rattle.exact_algebra.specs.Rational.{ℚ}
+use Rattle.rational_laws.specs.Fraction.{Fraction}
+use Rattle.rational_laws.specs.Rational.{ℚ}
 use Rattle.loss_model.specs.declared.problem.Problem.{Problem}
 use Rattle.loss_model.specs.Problem.{sample, IsWellShaped}
 use Rattle.loss_model.specs.Sample.{Sample}
-use Rattle.walk_rule.specs.Basis.{IsBasis}
-use Rattle.walk_rule.specs.Trails.{EndsAt}
+use Rattle.walk_model.specs.Basis.{IsBasis}
+use Rattle.walk_model.specs.Trails.{EndsAt}
 
 -- which body keeps it
 pub data Body : Type 0 where

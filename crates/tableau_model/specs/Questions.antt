@@ -1,14 +1,14 @@
 -- Inner. What the loops ask for at a basis: its step, and the operations by which that is found.
 use Rattle.std.specs.Prelude.{ℕ}
-use Rattle.exact_algebra.specs.Fraction.{Fraction}
-use Rattle.exact_algebra.specs.Rational.{ℚ}
+use Rattle.rational_laws.specs.Fraction.{Fraction}
+use Rattle.rational_laws.specs.Rational.{ℚ}
 use Rattle.loss_model.specs.declared.spill.Spill.{Spill}
-use Rattle.walk_rule.specs.Steps.{IsSolvingStep}
-use Rattle.walk_rule.specs.Spills.{IsStepSpill}
-use Rattle.walk_rule.specs.Families.{over_quantiles}
-use Rattle.walk_rule.specs.Walks.{IsWalkingStep}
-use Rattle.walk_rule.specs.WalkTrails.{is_below}
-use Rattle.walk_rule.specs.WalkSpills.{IsStaySpill}
+use Rattle.walk_model.specs.Steps.{IsSolvingStep}
+use Rattle.walk_model.specs.Spills.{IsStepSpill}
+use Rattle.walk_model.specs.Families.{over_quantiles}
+use Rattle.walk_model.specs.Walks.{IsWalkingStep}
+use Rattle.walk_model.specs.WalkTrails.{is_below}
+use Rattle.walk_model.specs.WalkSpills.{IsStaySpill}
 use Rattle.tableau_model.specs.Places.{Place, at_of, sample_of}
 
 -- the step of a solve at theta, or that of a walk over quantiles from `from` on and below hi

@@ -1,6 +1,6 @@
 -- Inner. Why a question has no answer.
 use Rattle.std.specs.Prelude.{◌≡◌, ℕ}
-use Rattle.exact_algebra.specs.Fraction.{Fraction}
+use Rattle.rational_laws.specs.Fraction.{Fraction}
 use Rattle.tableau_model.specs.declared.refusal.Refusal.{Refusal}
 use Rattle.tableau_model.specs.declared.refusal.Refusal.TheVariants.{Overflow, TooWide}
 use Rattle.tableau_model.specs.declared.refusal.Failure.{Failure}

@@ -1,14 +1,14 @@
 -- Inner. What the answers for a walk over quantiles say at a basis.
 use Rattle.std.specs.Prelude.{ℕ, Option, Some, None}
-use Rattle.exact_algebra.specs.Fraction.{Fraction, rational}
-use Rattle.exact_algebra.specs.Rational.{ℚ}
+use Rattle.rational_laws.specs.Fraction.{Fraction, rational}
+use Rattle.rational_laws.specs.Rational.{ℚ}
 use Rattle.loss_model.specs.declared.process.Exchange.{Exchange}
 use Rattle.loss_model.specs.declared.process.Segment.{Segment}
-use Rattle.walk_rule.specs.Families.{over_quantiles, IsOptimalIn}
-use Rattle.walk_rule.specs.Walks.{IsWalkingStep}
-use Rattle.walk_rule.specs.WalkTrails.{is_below}
-use Rattle.walk_rule.specs.WalkSpills.{IsSegmentEnd}
-use Rattle.walk_rule.specs.Stays.{IsSegmentOf}
+use Rattle.walk_model.specs.Families.{over_quantiles, IsOptimalIn}
+use Rattle.walk_model.specs.Walks.{IsWalkingStep}
+use Rattle.walk_model.specs.WalkTrails.{is_below}
+use Rattle.walk_model.specs.WalkSpills.{IsSegmentEnd}
+use Rattle.walk_model.specs.Stays.{IsSegmentOf}
 use Rattle.tableau_model.specs.Places.{Place, at_of, sample_of}
 
 module _ {F : Type 0} (value : F → Fraction) where

@@ -3,8 +3,8 @@
 //!
 //! Two bodies can keep a basis, and answer. To the loops a basis is a `Place`: a problem, the rows of the basis
 //! by position, and the inverse of their entries in ℚ. The crate has that definition, the questions, what
-//! their answers say, and the types of steps and refusals. It stands on the steps of `pivot_rule` and the walks
-//! of `walk_rule`, and has no code.
+//! their answers say, and the types of steps and refusals. It stands on the steps of `pivot_model` and the walks
+//! of `walk_model`, and has no code.
 #![tactic(auto)]
 
 mod answer;

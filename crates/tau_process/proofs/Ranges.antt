@@ -1,8 +1,8 @@
 -- What is answered to a walk: a process, or the stop of what halts it.
 use Rattle.std.specs.Prelude.{◌≡◌, ◌≤◌, ℕ, length, Some}
 use Rattle.std.proofs.Common.{Ok, Err, refl, sym, subst, inl, inr}
-use Rattle.exact_algebra.specs.Fraction.{Fraction}
-use Rattle.exact_algebra.specs.Rational.{ℚ, ◌≤ℚ◌}
+use Rattle.rational_laws.specs.Fraction.{Fraction}
+use Rattle.rational_laws.specs.Rational.{ℚ, ◌≤ℚ◌}
 use Rattle.loss_model.specs.declared.problem.Problem.{Problem}
 use Rattle.loss_model.specs.declared.process.Process.{Process}
 use Rattle.loss_model.specs.declared.process.Trail.{Trail}
@@ -12,15 +12,15 @@ use Rattle.loss_model.specs.declared.stop.Stop.TheVariants.{OutOfMemory, PivotLi
 use Rattle.loss_model.specs.Problem.{sample, value_at}
 use Rattle.loss_model.specs.Segment.{Covers, segments_of}
 use Rattle.loss_model.specs.StartStop.{IsStartStop, IsDependent}
-use Rattle.pivot_rule.specs.Duals.{HasCosts}
-use Rattle.pivot_rule.specs.Trails.{basis_after}
-use Rattle.pivot_rule.proofs.Solved.{full_rank}
-use Rattle.walk_rule.specs.Families.{over_quantiles}
-use Rattle.walk_rule.specs.Stays.{AreOptimalSegments}
-use Rattle.walk_rule.specs.WalkSpills.{IsStaySpill}
-use Rattle.walk_rule.specs.WalkTrails.{theta_value, is_below, value_after, IsWalkEnd}
-use Rattle.walk_rule.proofs.Trails.{one_process}
-use Rattle.walk_rule.proofs.Walked.{walk_covers}
+use Rattle.pivot_model.specs.Duals.{HasCosts}
+use Rattle.pivot_model.specs.Trails.{basis_after}
+use Rattle.pivot_model.proofs.Solved.{full_rank}
+use Rattle.walk_model.specs.Families.{over_quantiles}
+use Rattle.walk_model.specs.Stays.{AreOptimalSegments}
+use Rattle.walk_model.specs.WalkSpills.{IsStaySpill}
+use Rattle.walk_model.specs.WalkTrails.{theta_value, is_below, value_after, IsWalkEnd}
+use Rattle.walk_model.proofs.Trails.{one_process}
+use Rattle.walk_model.proofs.Walked.{walk_covers}
 use Rattle.tableau_model.specs.declared.refusal.Refusal.TheVariants.{Overflow as Spilled}
 use Rattle.tableau_model.specs.Places.{Task, at_of, sample_of}
 use Rattle.tableau.specs.declared.solving.Halt.{Halt}

@@ -1,8 +1,8 @@
 -- Inner. What is answered to a walk over a range.
 use Rattle.std.specs.Prelude.{ℕ, ◌≤◌, length, IfOk, IfErr}
 use Rattle.std.proofs.Common.{Result}
-use Rattle.exact_algebra.specs.Fraction.{Fraction}
-use Rattle.exact_algebra.specs.Rational.{ℚ}
+use Rattle.rational_laws.specs.Fraction.{Fraction}
+use Rattle.rational_laws.specs.Rational.{ℚ}
 use Rattle.loss_model.specs.declared.problem.Problem.{Problem}
 use Rattle.loss_model.specs.declared.process.Process.{Process}
 use Rattle.loss_model.specs.declared.stop.Stop.{Stop}

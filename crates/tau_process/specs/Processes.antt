@@ -1,15 +1,15 @@
 -- Stated. What a process over a range of quantiles gives (Koenker and d'Orey 1987, AS 229).
 use Rattle.std.specs.Prelude.{ℕ, List, length, filter}
-use Rattle.exact_algebra.specs.Fraction.{Fraction}
-use Rattle.exact_algebra.specs.Rational.{ℚ}
+use Rattle.rational_laws.specs.Fraction.{Fraction}
+use Rattle.rational_laws.specs.Rational.{ℚ}
 use Rattle.loss_model.specs.declared.problem.Problem.{Problem}
 use Rattle.loss_model.specs.declared.process.Process.{Process}
 use Rattle.loss_model.specs.Problem.{sample}
 use Rattle.loss_model.specs.Segment.{Covers, segments_of}
-use Rattle.pivot_rule.specs.Trails.{basis_after}
-use Rattle.walk_rule.specs.Families.{over_quantiles}
-use Rattle.walk_rule.specs.Stays.{AreOptimalSegments, AreSegmentsOf, is_reported, stays}
-use Rattle.walk_rule.specs.WalkTrails.{IsProcessTrail, IsWalkEnd, is_below, theta_value}
+use Rattle.pivot_model.specs.Trails.{basis_after}
+use Rattle.walk_model.specs.Families.{over_quantiles}
+use Rattle.walk_model.specs.Stays.{AreOptimalSegments, AreSegmentsOf, is_reported, stays}
+use Rattle.walk_model.specs.WalkTrails.{IsProcessTrail, IsWalkEnd, is_below, theta_value}
 
 module _ {F : Type 0} (value : F → Fraction) (p : Problem F) (lo hi : ℚ) where
   -- the lawful trail is at its end: no step is left at its last basis, and the segments are those of the bases at

@@ -1,7 +1,7 @@
 -- Stated. Why a process over a range of quantiles stops.
 use Rattle.std.specs.Prelude.{◌≡◌, ◌⊎◌, ℕ, ◌≤◌, List, length, slice_index}
-use Rattle.exact_algebra.specs.Fraction.{Fraction}
-use Rattle.exact_algebra.specs.Rational.{ℚ}
+use Rattle.rational_laws.specs.Fraction.{Fraction}
+use Rattle.rational_laws.specs.Rational.{ℚ}
 use Rattle.loss_model.specs.declared.problem.Problem.{Problem}
 use Rattle.loss_model.specs.declared.process.Trail.{Trail}
 use Rattle.loss_model.specs.declared.spill.Spill.{Spill}
@@ -10,10 +10,10 @@ use Rattle.loss_model.specs.declared.stop.Stop.TheVariants.{OutOfMemory, PivotLi
 use Rattle.loss_model.specs.Problem.{sample}
 use Rattle.loss_model.specs.Sample.{Sample}
 use Rattle.loss_model.specs.StartStop.{IsStartSpill, IsDependent}
-use Rattle.pivot_rule.specs.Trails.{AtBasis}
+use Rattle.pivot_model.specs.Trails.{AtBasis}
 use Rattle.tableau.specs.Solves.{IsSolveSpill}
-use Rattle.walk_rule.specs.WalkSpills.{IsStaySpill}
-use Rattle.walk_rule.specs.WalkTrails.{IsProcessTrail, ReachesProcessLimit}
+use Rattle.walk_model.specs.WalkSpills.{IsStaySpill}
+use Rattle.walk_model.specs.WalkTrails.{IsProcessTrail, ReachesProcessLimit}
 
 module _ {F : Type 0} (value : F → Fraction) (range : ℕ) (p : Problem F) (lo hi : ℚ) (limit : ℕ) where
   -- an operation of the stay at the last basis of the lawful trail overflows

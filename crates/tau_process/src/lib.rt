@@ -4,7 +4,7 @@
 //! The one contract for the layers above: `process` gives closed segments that cover the range, each
 //! optimal at both of its ends, and the lawful trail that leads through their bases; where it stops
 //! without them, it says what it had to stop for. It stands on the two loops of `tableau`, and on the laws
-//! of `walk_rule`.
+//! of `walk_model`.
 //! Its tests stand in the crate `solver_tests`.
 //!
 //! `rq_engine` calls it so:

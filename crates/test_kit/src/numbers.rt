@@ -1,8 +1,8 @@
 //! Numbers as pairs, and their order.
 
 ghost use Rattle.std.specs.Prelude.{IsTrue};
-ghost use Rattle.exact_algebra.specs.Fraction.{rational};
-ghost use Rattle.exact_algebra.specs.Rational.{◌≤ℚ◌};
+ghost use Rattle.rational_laws.specs.Fraction.{rational};
+ghost use Rattle.rational_laws.specs.Rational.{◌≤ℚ◌};
 ghost use Rattle.loss_model.specs.Strict.{◌<ℚ◌};
 
 use frac_core::Exact;

@@ -18,7 +18,7 @@ use Rattle.std.proofs.lemmas.Map.Views.{All-after_first}
 use denote.Param.Members.{Mut}
 use denote.Ref.{Bor}
 use Rattle.frac_core.specs.declared.frac128.Frac128.{Frac128}
-use Rattle.exact_algebra.specs.Order.{cmp_ℚ}
+use Rattle.rational_laws.specs.Order.{cmp_ℚ}
 use Rattle.frac_core.specs.Values.{exact, value}
 use Rattle.frac_core.proofs.Values.{same_number}
 use Rattle.loss_model.proofs.Products.{value_at-item}

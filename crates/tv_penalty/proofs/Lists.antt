@@ -7,9 +7,9 @@ use Rattle.std.proofs.lemmas.List.FromFn.{map-range_with_len_more}
 use Rattle.frac_core.specs.declared.frac128.Frac128.{Frac128}
 use Rattle.loss_model.proofs.Products.{value_at-item}
 use Rattle.design_matrix.specs.Lists.{each}
-use Rattle.exact_algebra.specs.Order.{cmp_ℚ}
-use Rattle.exact_algebra.specs.Rational.{ℚ, whole}
-use Rattle.exact_algebra.proofs.Lists.{mapped_more, map_replicate}
+use Rattle.rational_laws.specs.Order.{cmp_ℚ}
+use Rattle.rational_laws.specs.Rational.{ℚ, whole}
+use Rattle.rational_laws.proofs.Lists.{mapped_more, map_replicate}
 use Rattle.frac_core.specs.Values.{exact, value}
 use Rattle.tv_penalty.specs.Smoothings.{knot_at, placed, with_columns}
 use Rattle.tv_penalty.specs.Views.{AreAscending}

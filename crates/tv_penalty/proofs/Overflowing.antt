@@ -1,11 +1,11 @@
 -- Operations that overflow, and those that don't.
 use Rattle.std.proofs.Common.{◌≡◌, ◌^◌, ◌-◌, ◌+◌, ◌<◌, ◌++◌, ℕ, zero, suc, List, append_assoc, append-nil, inl, inr, arith, [], ◌∷◌, pos, negsuc, Less, refl, sym, ap, ap₂, subst, ◌∙◌}
 use Rattle.std.specs.List.{flat_map, range_with_len}
-use Rattle.exact_algebra.specs.Order.{cmp_ℚ}
-use Rattle.exact_algebra.proofs.OrderLaws.{cmp_ℚ-Less}
-use Rattle.exact_algebra.specs.Rational.{ℚ, ◌+ℚ◌, ◌-ℚ◌, ◌≤ℚ◌, inverse, neg_ℚ, whole}
-use Rattle.exact_algebra.proofs.RationalLaws.{≤ℚ_refl, ring_by_ℚ}
-use Rattle.exact_algebra.specs.Solver.{number, ◌⊟◌, v0, v1}
+use Rattle.rational_laws.specs.Order.{cmp_ℚ}
+use Rattle.rational_laws.proofs.OrderLaws.{cmp_ℚ-Less}
+use Rattle.rational_laws.specs.Rational.{ℚ, ◌+ℚ◌, ◌-ℚ◌, ◌≤ℚ◌, inverse, neg_ℚ, whole}
+use Rattle.rational_laws.proofs.RationalLaws.{≤ℚ_refl, ring_by_ℚ}
+use Rattle.rational_laws.specs.Solver.{number, ◌⊟◌, v0, v1}
 use Rattle.frac_core.specs.Overflow.{Overflows as OverflowsAt}
 use Rattle.frac_core.specs.declared.exact.OpKind.{OpKind}
 use Rattle.frac_core.specs.declared.exact.OpKind.TheVariants.{Sub}

@@ -4,9 +4,9 @@ use Rattle.std.specs.Cmp.{IsTotalOrder, IsEquivalence, both_ways, Equal-is, on_t
 use Rattle.std.specs.Ordering.{eq_by_cmp}
 use Rattle.std.proofs.lemmas.Bool.{eqb-true, and_parts, and_from}
 use Rattle.std.proofs.lemmas.Bool.Decides.{Decides-eqb, Decides-int_eq}
-use Rattle.exact_algebra.specs.Order.{cmp_ℚ}
-use Rattle.exact_algebra.proofs.OrderLaws.{cmp_ℚ-Equal, cmp_ℚ_swap}
-use Rattle.exact_algebra.proofs.Signs.{below_trans}
+use Rattle.rational_laws.specs.Order.{cmp_ℚ}
+use Rattle.rational_laws.proofs.OrderLaws.{cmp_ℚ-Equal, cmp_ℚ_swap}
+use Rattle.rational_laws.proofs.Signs.{below_trans}
 use Rattle.frac_core.specs.Lowest.{IsWithin-along}
 use Rattle.frac_core.specs.declared.frac128.Frac128.{Frac128}
 use Rattle.frac_core.specs.Values.{exact, value}

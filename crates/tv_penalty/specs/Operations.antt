@@ -1,7 +1,7 @@
 -- Stated. The operations of penalty rows, and the first of them that overflows.
 use Rattle.std.specs.Prelude.{ℕ, suc, ◌+◌, ◌-◌, ◌^◌, ◌⊎◌, List, [], ◌∷◌, length, pos}
 use Rattle.std.specs.List.{flat_map, range_with_len}
-use Rattle.exact_algebra.specs.Rational.{ℚ, ◌-ℚ◌, inverse, whole}
+use Rattle.rational_laws.specs.Rational.{ℚ, ◌-ℚ◌, inverse, whole}
 use Rattle.frac_core.specs.declared.exact.OpKind.{OpKind}
 use Rattle.frac_core.specs.declared.exact.OpKind.TheVariants.{Sub}
 use Rattle.frac_core.specs.declared.frac128.Frac128.{Frac128}

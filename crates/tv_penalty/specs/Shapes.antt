@@ -1,8 +1,8 @@
 -- Law. What whoever goes on with a smoothing knows of its lists and its rows.
 use Rattle.std.specs.Prelude.{◌≡◌, ◌≤◌, All, length, pos}
 use Rattle.std.specs.declared.cmp.Ordering.TheVariants.{Less}
-use Rattle.exact_algebra.specs.Order.{cmp_ℚ}
-use Rattle.exact_algebra.specs.Rational.{whole}
+use Rattle.rational_laws.specs.Order.{cmp_ℚ}
+use Rattle.rational_laws.specs.Rational.{whole}
 use Rattle.frac_core.specs.Values.{exact}
 use Rattle.formula_parser.specs.declared.formula.Formula.{Formula}
 use Rattle.design_matrix.specs.declared.design.Design.{Design}

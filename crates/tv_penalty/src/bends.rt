@@ -3,8 +3,8 @@
 ghost use Rattle.std.specs.Prelude.{◌≡◌, ◌≢◌, ◌⊎◌, pos, ◌<◌, ◌≤◌, ◌+◌, ◌^◌, IfErr, IfOk, OnOk, length, map};
 ghost use Rattle.std.specs.List.{range_with_len};
 ghost use Rattle.std.specs.declared.cmp.Ordering.TheVariants.{Less};
-ghost use Rattle.exact_algebra.specs.Order.{cmp_ℚ};
-ghost use Rattle.exact_algebra.specs.Rational.{◌+ℚ◌, ◌-ℚ◌, inverse, whole};
+ghost use Rattle.rational_laws.specs.Order.{cmp_ℚ};
+ghost use Rattle.rational_laws.specs.Rational.{◌+ℚ◌, ◌-ℚ◌, inverse, whole};
 ghost use Rattle.loss_model.specs.declared.spill.Spill.{Spill as Spilt};
 ghost use Rattle.frac_core.specs.declared.frac128.Frac128.{Frac128 as Fraction128};
 ghost use Rattle.frac_core.specs.Values.{exact};

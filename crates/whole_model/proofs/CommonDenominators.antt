@@ -4,10 +4,10 @@ use Rattle.std.proofs.Common.{arith, refl, sym, ap, ◌∙◌}
 use Rattle.std.proofs.Math.Nat.{mul-pos}
 use Rattle.std.proofs.lemmas.Bool.{ltb-false}
 use borrow.Author.Tests.{ltb-true}
-use Rattle.exact_algebra.specs.Solver.{◌⊠◌, v0, v1, v2}
-use Rattle.exact_algebra.specs.Rational.{ℚ, ◌*ℚ◌, whole}
-use Rattle.exact_algebra.proofs.RationalLaws.{whole-mul, ring_ℚ}
-use Rattle.exact_algebra.proofs.Signs.{whole_product}
+use Rattle.rational_laws.specs.Solver.{◌⊠◌, v0, v1, v2}
+use Rattle.rational_laws.specs.Rational.{ℚ, ◌*ℚ◌, whole}
+use Rattle.rational_laws.proofs.RationalLaws.{whole-mul, ring_ℚ}
+use Rattle.rational_laws.proofs.Signs.{whole_product}
 use Rattle.loss_model.proofs.Quotients.{whole-quotient}
 use Rattle.whole_model.proofs.LowestTerms.{lowest_of}
 

@@ -3,12 +3,12 @@ use Rattle.std.specs.Prelude.{◌≡◌, ℕ, zero, suc, ◌*◌, ◌/◌, ◌�
 use Rattle.std.specs.Option.{option_map_or}
 use Rattle.std.proofs.Common.{arith, refl, sym, ap, ◌∙◌}
 use Rattle.std.proofs.Math.Nat.{mul-div_cancel_left}
-use Rattle.exact_algebra.specs.Fraction.{Fraction, rational, common, over}
-use Rattle.exact_algebra.specs.Solver.{number, ◌⊠◌, v0, v1, v2, v3}
-use Rattle.exact_algebra.specs.Rational.{ℚ, ◌*ℚ◌, inverse, quotient, whole}
-use Rattle.exact_algebra.proofs.RationalLaws.{whole-mul, ring_ℚ, ring_by_ℚ}
-use Rattle.exact_algebra.proofs.Quotients.{quotient_from}
-use Rattle.exact_algebra.proofs.Signs.{whole_product}
+use Rattle.rational_laws.specs.Fraction.{Fraction, rational, common, over}
+use Rattle.rational_laws.specs.Solver.{number, ◌⊠◌, v0, v1, v2, v3}
+use Rattle.rational_laws.specs.Rational.{ℚ, ◌*ℚ◌, inverse, quotient, whole}
+use Rattle.rational_laws.proofs.RationalLaws.{whole-mul, ring_ℚ, ring_by_ℚ}
+use Rattle.rational_laws.proofs.Quotients.{quotient_from}
+use Rattle.rational_laws.proofs.Signs.{whole_product}
 use Rattle.loss_model.specs.declared.problem.Row.{Row}
 use Rattle.loss_model.specs.declared.problem.Problem.{Problem}
 use Rattle.loss_model.specs.Problem.{value_at, sample}

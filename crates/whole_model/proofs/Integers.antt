@@ -1,16 +1,16 @@
 -- Minima and dual values in fractions and in whole numbers.
 use Rattle.std.specs.Prelude.{◌≡◌, ◌↔◌, ℕ, ◌+◌, ◌*◌, ◌<◌, ◌≤◌, [], ◌∷◌, ℤ, pos, ◌+ℤ◌, ◌*ℤ◌, ◌≤ℤ◌, neg_ℤ}
 use Rattle.std.proofs.Common.{arith, refl, sym, ap, subst, ◌∙◌}
-use Rattle.exact_algebra.specs.IntegerSums.{sum_to}
-use Rattle.exact_algebra.specs.Solver.{number, negated, ◌⊞◌, ◌⊠◌, v0, v1, v2, v3, v4, v5, v6, v7}
-use Rattle.exact_algebra.specs.Rational.{ℚ, ◌+ℚ◌, ◌*ℚ◌, neg_ℚ, inverse, quotient, whole, ◌≤ℚ◌}
-use Rattle.exact_algebra.proofs.RationalLaws.{whole-add, whole-mul, one-*ℚ, ring_ℚ, ring_by_ℚ}
-use Rattle.exact_algebra.specs.RationalSums.{sum_ℚ}
-use Rattle.exact_algebra.proofs.RationalSumLaws.{sum_ℚ-same, sum_ℚ-scale}
-use Rattle.exact_algebra.proofs.WholeNumbers.{whole-neg, whole-sum}
-use Rattle.exact_algebra.specs.Fraction.{Fraction, rational}
-use Rattle.exact_algebra.proofs.Quotients.{quotient_from}
-use Rattle.exact_algebra.proofs.Signs.{whole_product}
+use Rattle.rational_laws.specs.IntegerSums.{sum_to}
+use Rattle.rational_laws.specs.Solver.{number, negated, ◌⊞◌, ◌⊠◌, v0, v1, v2, v3, v4, v5, v6, v7}
+use Rattle.rational_laws.specs.Rational.{ℚ, ◌+ℚ◌, ◌*ℚ◌, neg_ℚ, inverse, quotient, whole, ◌≤ℚ◌}
+use Rattle.rational_laws.proofs.RationalLaws.{whole-add, whole-mul, one-*ℚ, ring_ℚ, ring_by_ℚ}
+use Rattle.rational_laws.specs.RationalSums.{sum_ℚ}
+use Rattle.rational_laws.proofs.RationalSumLaws.{sum_ℚ-same, sum_ℚ-scale}
+use Rattle.rational_laws.proofs.WholeNumbers.{whole-neg, whole-sum}
+use Rattle.rational_laws.specs.Fraction.{Fraction, rational}
+use Rattle.rational_laws.proofs.Quotients.{quotient_from}
+use Rattle.rational_laws.proofs.Signs.{whole_product}
 use Rattle.loss_model.specs.Sample.{Sample}
 use Rattle.loss_model.specs.Sample as exact
 use Rattle.loss_model.specs.Dual.{mix}

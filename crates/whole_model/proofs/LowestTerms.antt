@@ -7,10 +7,10 @@ use Rattle.std.proofs.lemmas.Int.{ints}
 use mathlib.Core.HLevel.{is_prop→PathP}
 use native.Mathlib.Nat.{ℕ_set}
 use native.Mathlib.Bridge.{le_prop}
-use Rattle.exact_algebra.specs.Fraction.{Fraction, rational}
-use Rattle.exact_algebra.proofs.Quotients.{by_quotient, same_value}
-use Rattle.exact_algebra.specs.Solver.{identity, negated, ◌⊠◌, v0, v1}
-use Rattle.exact_algebra.specs.Rational.{ℚ, ℚ_set, quotient}
+use Rattle.rational_laws.specs.Fraction.{Fraction, rational}
+use Rattle.rational_laws.proofs.Quotients.{by_quotient, same_value}
+use Rattle.rational_laws.specs.Solver.{identity, negated, ◌⊠◌, v0, v1}
+use Rattle.rational_laws.specs.Rational.{ℚ, ℚ_set, quotient}
 use Rattle.frac_core.specs.Gcd.{gcd}
 use Rattle.frac_core.specs.GcdLaws.{gcd_dvd_l, gcd_dvd_r, gcd_pos, coprime_quotients}
 use Rattle.frac_core.specs.Lowest.{same_fraction}

@@ -1,13 +1,13 @@
 -- Full rank among fractions and among whole numbers.
 use Rattle.std.specs.Prelude.{◌≡◌, ◌↔◌, ℕ, ◌<◌, ◌≤◌, [], ◌∷◌, ℤ, pos, ◌*ℤ◌}
 use Rattle.std.proofs.Common.{refl, sym, ap, subst, ◌∙◌}
-use Rattle.exact_algebra.specs.IntegerSums.{sum_to}
-use Rattle.exact_algebra.specs.Solver.{number, ◌⊠◌, v0, v1, v2, v3}
-use Rattle.exact_algebra.specs.Rational.{ℚ, ◌*ℚ◌, whole}
-use Rattle.exact_algebra.proofs.RationalLaws.{whole-mul, ring_ℚ}
-use Rattle.exact_algebra.specs.RationalSums.{sum_ℚ}
-use Rattle.exact_algebra.proofs.RationalSumLaws.{sum_ℚ-same, sum_ℚ-scale}
-use Rattle.exact_algebra.proofs.WholeNumbers.{same_from_whole, whole-sum}
+use Rattle.rational_laws.specs.IntegerSums.{sum_to}
+use Rattle.rational_laws.specs.Solver.{number, ◌⊠◌, v0, v1, v2, v3}
+use Rattle.rational_laws.specs.Rational.{ℚ, ◌*ℚ◌, whole}
+use Rattle.rational_laws.proofs.RationalLaws.{whole-mul, ring_ℚ}
+use Rattle.rational_laws.specs.RationalSums.{sum_ℚ}
+use Rattle.rational_laws.proofs.RationalSumLaws.{sum_ℚ-same, sum_ℚ-scale}
+use Rattle.rational_laws.proofs.WholeNumbers.{same_from_whole, whole-sum}
 use Rattle.loss_model.specs.Sample.{Sample, fitted}
 use Rattle.whole_model.specs.Scaled.{Scaled}
 use Rattle.whole_model.specs.Scaled as integers

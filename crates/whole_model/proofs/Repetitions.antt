@@ -1,11 +1,11 @@
 -- Losses of records that are repeated.
 use Rattle.std.proofs.Common.{◌≡◌, ◌+◌, ℕ, zero, suc, List, [], ◌∷◌, ◌++◌, length, pos, refl, sym, ap, subst, ◌∙◌, arith}
 use Rattle.std.specs.Prelude.{replicate}
-use Rattle.exact_algebra.specs.Solver.{number, negated, ◌⊞◌, ◌⊠◌, v0, v1, v2, v3}
-use Rattle.exact_algebra.specs.Rational.{ℚ, ◌+ℚ◌, ◌-ℚ◌, ◌*ℚ◌, ◌≤ℚ◌, whole}
-use Rattle.exact_algebra.proofs.RationalLaws.{whole-add, ring_ℚ}
-use Rattle.exact_algebra.specs.RationalSums.{sum_ℚ, positive_ℚ, negative_ℚ}
-use Rattle.exact_algebra.proofs.RationalSumLaws.{sum_ℚ-first}
+use Rattle.rational_laws.specs.Solver.{number, negated, ◌⊞◌, ◌⊠◌, v0, v1, v2, v3}
+use Rattle.rational_laws.specs.Rational.{ℚ, ◌+ℚ◌, ◌-ℚ◌, ◌*ℚ◌, ◌≤ℚ◌, whole}
+use Rattle.rational_laws.proofs.RationalLaws.{whole-add, ring_ℚ}
+use Rattle.rational_laws.specs.RationalSums.{sum_ℚ, positive_ℚ, negative_ℚ}
+use Rattle.rational_laws.proofs.RationalSumLaws.{sum_ℚ-first}
 use Rattle.loss_model.specs.Sample.{loss, row_loss}
 use Rattle.whole_model.specs.Repeated.{Observation, WholeWeightsCount, often, once, weighted}
 

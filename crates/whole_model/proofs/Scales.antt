@@ -1,15 +1,15 @@
 -- A sample whose values were all multiplied by one whole number.
 use Rattle.std.specs.Prelude.{◌≡◌, ℕ, ◌≤◌, Bool, true, false, [], ◌∷◌, ℤ, pos, ◌+ℤ◌, ◌*ℤ◌}
 use Rattle.std.proofs.Common.{refl, sym, ap, subst, ◌∙◌}
-use Rattle.exact_algebra.specs.IntegerSums.{sum_to, positive_part, negative_part}
-use Rattle.exact_algebra.specs.Solver.{number, negated, ◌⊞◌, ◌⊟◌, ◌⊠◌, v0, v1, v2, v3, v4, v5, v6}
-use Rattle.exact_algebra.specs.Rational.{ℚ, ◌+ℚ◌, ◌-ℚ◌, ◌*ℚ◌, whole, ◌≤ℚ◌, le_ℚ}
-use Rattle.exact_algebra.proofs.RationalLaws.{whole-add, whole-mul, ring_ℚ, ≤ℚ_mul, ≤ℚ_total}
-use Rattle.exact_algebra.specs.RationalSums.{sum_ℚ, positive_ℚ, negative_ℚ}
-use Rattle.exact_algebra.proofs.RationalSumLaws.{sum_ℚ-same, sum_ℚ-scale}
-use Rattle.exact_algebra.proofs.WholeNumbers.{whole-sum, whole-positive, whole-negative}
-use Rattle.exact_algebra.specs.Fraction.{Fraction, rational}
-use Rattle.exact_algebra.proofs.Signs.{product_not_negative, whole_not_negative}
+use Rattle.rational_laws.specs.IntegerSums.{sum_to, positive_part, negative_part}
+use Rattle.rational_laws.specs.Solver.{number, negated, ◌⊞◌, ◌⊟◌, ◌⊠◌, v0, v1, v2, v3, v4, v5, v6}
+use Rattle.rational_laws.specs.Rational.{ℚ, ◌+ℚ◌, ◌-ℚ◌, ◌*ℚ◌, whole, ◌≤ℚ◌, le_ℚ}
+use Rattle.rational_laws.proofs.RationalLaws.{whole-add, whole-mul, ring_ℚ, ≤ℚ_mul, ≤ℚ_total}
+use Rattle.rational_laws.specs.RationalSums.{sum_ℚ, positive_ℚ, negative_ℚ}
+use Rattle.rational_laws.proofs.RationalSumLaws.{sum_ℚ-same, sum_ℚ-scale}
+use Rattle.rational_laws.proofs.WholeNumbers.{whole-sum, whole-positive, whole-negative}
+use Rattle.rational_laws.specs.Fraction.{Fraction, rational}
+use Rattle.rational_laws.proofs.Signs.{product_not_negative, whole_not_negative}
 use Rattle.loss_model.specs.Sample.{Sample}
 use Rattle.loss_model.specs.Sample as exact
 use Rattle.whole_model.specs.Scaled.{Scaled, up_cost, down_cost, residual, row_loss, loss}

@@ -2,13 +2,13 @@
 use Rattle.std.specs.Prelude.{◌≡◌, ◌↔◌, ℕ, ◌≤◌, [], ◌∷◌, ℤ, pos, ◌≤ℤ◌}
 use Rattle.std.proofs.Common.{arith, refl, sym, ap, subst, ◌∙◌}
 use Rattle.std.proofs.lemmas.Int.{ints}
-use Rattle.exact_algebra.specs.Solver.{number, ◌⊠◌, v0}
-use Rattle.exact_algebra.specs.Rational.{ℚ, ◌*ℚ◌, whole, ◌≤ℚ◌}
-use Rattle.exact_algebra.proofs.RationalLaws.{ring_ℚ, ≤ℚ_mul}
-use Rattle.exact_algebra.proofs.WholeNumbers.{whole-le, le_from_whole, same_from_whole}
-use Rattle.exact_algebra.proofs.Inverses.{*ℚ_cancel}
-use Rattle.exact_algebra.proofs.OrderLaws.{≤ℚ-from_mul, le_from_not}
-use Rattle.exact_algebra.proofs.Signs.{positive_nonzero}
+use Rattle.rational_laws.specs.Solver.{number, ◌⊠◌, v0}
+use Rattle.rational_laws.specs.Rational.{ℚ, ◌*ℚ◌, whole, ◌≤ℚ◌}
+use Rattle.rational_laws.proofs.RationalLaws.{ring_ℚ, ≤ℚ_mul}
+use Rattle.rational_laws.proofs.WholeNumbers.{whole-le, le_from_whole, same_from_whole}
+use Rattle.rational_laws.proofs.Inverses.{*ℚ_cancel}
+use Rattle.rational_laws.proofs.OrderLaws.{≤ℚ-from_mul, le_from_not}
+use Rattle.rational_laws.proofs.Signs.{positive_nonzero}
 use Rattle.loss_model.specs.Strict.{◌<ℚ◌}
 
 pub positive_whole : (n : ℕ) → 1 ≤ n → whole (pos 0) <ℚ whole (pos n)

@@ -1,15 +1,15 @@
 -- Tested values that hold among fractions and among whole numbers.
 use Rattle.std.specs.Prelude.{◌≡◌, ◌↔◌, ℕ, ◌*◌, ◌<◌, ◌≤◌, [], ◌∷◌, ℤ, pos, ◌-ℤ◌, ◌*ℤ◌, ◌≤ℤ◌}
 use Rattle.std.proofs.Common.{refl, sym, ap, ap₂, subst, ◌∙◌}
-use Rattle.exact_algebra.specs.IntegerSums.{sum_to}
-use Rattle.exact_algebra.specs.Solver.{number, ◌⊟◌, ◌⊠◌, v0, v1, v2, v3, v4, v5, v6}
-use Rattle.exact_algebra.specs.Rational.{ℚ, ◌-ℚ◌, ◌*ℚ◌, quotient, whole, ◌≤ℚ◌}
-use Rattle.exact_algebra.proofs.RationalLaws.{whole-mul, ring_ℚ}
-use Rattle.exact_algebra.specs.RationalSums.{sum_ℚ}
-use Rattle.exact_algebra.proofs.RationalSumLaws.{sum_ℚ-same, sum_ℚ-scale}
-use Rattle.exact_algebra.proofs.WholeNumbers.{whole-sum}
-use Rattle.exact_algebra.specs.Fraction.{Fraction, rational}
-use Rattle.exact_algebra.proofs.Signs.{whole_product}
+use Rattle.rational_laws.specs.IntegerSums.{sum_to}
+use Rattle.rational_laws.specs.Solver.{number, ◌⊟◌, ◌⊠◌, v0, v1, v2, v3, v4, v5, v6}
+use Rattle.rational_laws.specs.Rational.{ℚ, ◌-ℚ◌, ◌*ℚ◌, quotient, whole, ◌≤ℚ◌}
+use Rattle.rational_laws.proofs.RationalLaws.{whole-mul, ring_ℚ}
+use Rattle.rational_laws.specs.RationalSums.{sum_ℚ}
+use Rattle.rational_laws.proofs.RationalSumLaws.{sum_ℚ-same, sum_ℚ-scale}
+use Rattle.rational_laws.proofs.WholeNumbers.{whole-sum}
+use Rattle.rational_laws.specs.Fraction.{Fraction, rational}
+use Rattle.rational_laws.proofs.Signs.{whole_product}
 use Rattle.loss_model.specs.declared.problem.Problem.{Problem}
 use Rattle.loss_model.specs.Problem.{sample}
 use Rattle.loss_model.specs.Sample.{Sample}
@@ -22,10 +22,10 @@ use Rattle.whole_model.proofs.Integers.{lower_of, upper_of, balanced_of}
 use Rattle.whole_model.proofs.Scales.{Scales}
 use Rattle.whole_model.proofs.Denominators.{scales, unit_positive}
 use Rattle.loss_model.specs.Strict.{◌<ℚ◌}
-use Rattle.rank_law.specs.Restricted as ranks
+use Rattle.rank_model.specs.Restricted as ranks
 use Rattle.whole_model.specs.WholeRanks.{IsFeasibleWithout, restricted_objective, IsOptimalAt, rank_statistic, projected, IsProjection, squared_length, IsWithin, Holds}
 use Rattle.whole_model.specs.Laws.{HoldsInIntegers, ExactIntervalInIntegers}
-use Rattle.rank_law.proofs.Exact.{exact}
+use Rattle.rank_model.proofs.Exact.{exact}
 
 module _ (q : ℕ) (p : Sample) (w : Scaled) (s : Scales q p w) (qp : 1 ≤ q) (j : ℕ) (lj : j < p.columns) where
   abbrev Q : ℚ

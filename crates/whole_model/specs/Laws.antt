@@ -1,7 +1,7 @@
 -- Law. What leads from fractions to whole numbers and back, and what dual values in whole numbers say.
 use Rattle.std.specs.Prelude.{◌≡◌, ◌↔◌, ℕ, ◌+◌, ◌*◌, ◌<◌, ◌≤◌, List, map, ℤ, pos}
-use Rattle.exact_algebra.specs.Rational.{ℚ, ◌*ℚ◌, whole, quotient}
-use Rattle.exact_algebra.specs.Fraction.{Fraction, rational, common}
+use Rattle.rational_laws.specs.Rational.{ℚ, ◌*ℚ◌, whole, quotient}
+use Rattle.rational_laws.specs.Fraction.{Fraction, rational, common}
 use Rattle.loss_model.specs.declared.problem.Problem.{Problem}
 use Rattle.loss_model.specs.Sample.{loss, Minimises}
 use Rattle.loss_model.specs.Dual.{IsDual}
@@ -11,8 +11,8 @@ use Rattle.whole_model.specs.Scaled.{Scaled, unit, scaled, over_at, between, mix
 use Rattle.whole_model.specs.Scaled as integers
 use Rattle.whole_model.specs.WholeRanks as whole_ranks
 use Rattle.loss_model.specs.declared.interval.Bound.{Bound}
-use Rattle.rank_law.specs.Restricted.{IsProjection, squared_length, Holds}
-use Rattle.rank_law.specs.Bounds.{IsAtLeast, IsAtMost, IsHighEnd, IsLowEnd}
+use Rattle.rank_model.specs.Restricted.{IsProjection, squared_length, Holds}
+use Rattle.rank_model.specs.Bounds.{IsAtLeast, IsAtMost, IsHighEnd, IsLowEnd}
 
 -- the loss in whole numbers at c/d and s/t is that in fractions, in units of 1/(Q*t * Q*d)
 abbrev pub LossInIntegers : {F : Type 0} → (F → Fraction) → Problem F → Type 0

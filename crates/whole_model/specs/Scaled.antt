@@ -2,8 +2,8 @@
 -- denominators. Nothing here is a fraction, so that it can be read with no knowledge of ℚ.
 use Rattle.std.specs.Prelude.{◌≡◌, ℕ, ◌<◌, ◌≤◌, ◌+◌, ◌*◌, List, [], ◌∷◌, ◌++◌, length, map, slice_get, ℤ, pos, ◌+ℤ◌, ◌-ℤ◌, ◌*ℤ◌, ◌≤ℤ◌, neg_ℤ}
 use Rattle.std.specs.Option.{option_map_or}
-use Rattle.exact_algebra.specs.Fraction.{Fraction, common, over}
-use Rattle.exact_algebra.specs.IntegerSums.{sum_to, positive_part, negative_part}
+use Rattle.rational_laws.specs.Fraction.{Fraction, common, over}
+use Rattle.rational_laws.specs.IntegerSums.{sum_to, positive_part, negative_part}
 use Rattle.loss_model.specs.declared.problem.Row.{Row}
 use Rattle.loss_model.specs.declared.problem.Problem.{Problem}
 

@@ -2,8 +2,8 @@
 -- 1/Q. A list e over g stands for the values e/(Q*g), a vector c over d for the fractions c/d. Nothing here
 -- is a number of ℚ.
 use Rattle.std.specs.Prelude.{◌≡◌, ◌≢◌, ℕ, ◌<◌, ◌≤◌, ℤ, pos, ◌-ℤ◌, ◌*ℤ◌, ◌≤ℤ◌, neg_ℤ}
-use Rattle.exact_algebra.specs.Fraction.{Fraction}
-use Rattle.exact_algebra.specs.IntegerSums.{sum_to}
+use Rattle.rational_laws.specs.Fraction.{Fraction}
+use Rattle.rational_laws.specs.IntegerSums.{sum_to}
 use Rattle.whole_model.specs.Scaled.{Scaled, up_cost, down_cost}
 
 -- the values e/(Q*g) are within the costs, and orthogonal to every column but j

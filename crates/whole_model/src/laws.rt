@@ -3,7 +3,7 @@
 
 ghost use Rattle.whole_model.specs.Laws.{DualsShowMinimumInIntegers, MixIsDualInIntegers, LossInIntegers, MinimisesInIntegers, DualsInIntegers, FullRankInIntegers, ListIsOver, HoldsInIntegers, ExactIntervalInIntegers};
 ghost use Rattle.std.specs.Prelude.{ℕ, List};
-ghost use Rattle.exact_algebra.specs.Rational.{ℚ};
+ghost use Rattle.rational_laws.specs.Rational.{ℚ};
 ghost use Rattle.whole_model.specs.Repeated.{Observation, WholeWeightsCount};
 
 use frac_core::Exact;

@@ -4,7 +4,7 @@
 //! The crate has no code. Its one contract is the laws: losses, minima, dual values, full rank and the
 //! tested values that hold among fractions are those among whole numbers, where dual values show a
 //! minimum, and mix; and a record of a whole weight counts as so many records. It stands on the problem
-//! and the laws of `loss_model`, on the test of `rank_law`, on `frac_core` and on `exact_algebra`;
+//! and the laws of `loss_model`, on the test of `rank_model`, on `frac_core` and on `rational_laws`;
 //! nothing stands on it.
 #![tactic(auto)]
 

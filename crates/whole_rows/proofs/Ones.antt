@@ -1,12 +1,12 @@
 -- Factors that are 1.
 use Rattle.std.proofs.Common.{◌≡◌, pos, [], ◌∷◌, arith, refl, sym, ap, ap₂, ◌∙◌}
 use Rattle.std.proofs.lemmas.Int.{ints}
-use Rattle.exact_algebra.specs.Fraction.{Fraction, rational}
-use Rattle.exact_algebra.specs.Rational.{ℚ, ◌*ℚ◌, inverse, quotient, whole}
-use Rattle.exact_algebra.specs.Solver.{number, ◌⊠◌, v0}
-use Rattle.exact_algebra.proofs.Inverses.{one-zero}
-use Rattle.exact_algebra.proofs.Quotients.{quotient-one}
-use Rattle.exact_algebra.proofs.RationalLaws.{ring_ℚ, *ℚ-inverse}
+use Rattle.rational_laws.specs.Fraction.{Fraction, rational}
+use Rattle.rational_laws.specs.Rational.{ℚ, ◌*ℚ◌, inverse, quotient, whole}
+use Rattle.rational_laws.specs.Solver.{number, ◌⊠◌, v0}
+use Rattle.rational_laws.proofs.Inverses.{one-zero}
+use Rattle.rational_laws.proofs.Quotients.{quotient-one}
+use Rattle.rational_laws.proofs.RationalLaws.{ring_ℚ, *ℚ-inverse}
 use Rattle.whole_rows.specs.declared.factor.Factor.{Factor}
 use Rattle.whole_rows.specs.Wholes.{factor_value}
 

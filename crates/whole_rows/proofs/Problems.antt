@@ -3,14 +3,14 @@ use Rattle.std.specs.Prelude.{◌≡◌, ◌≢◌, ◌⊎◌, ℕ, ◌<◌, ◌
 use Rattle.std.specs.Option.{option_map_or}
 use Rattle.std.proofs.Common.{refl, sym, ap, subst, ◌∙◌, get_or, inl, inr, arith}
 use Rattle.std.proofs.lemmas.Option.{slice_get_cases, get_or_from_slice_get}
-use Rattle.exact_algebra.specs.Fraction.{Fraction, rational}
-use Rattle.exact_algebra.specs.Rational.{whole, ◌≤ℚ◌}
-use Rattle.exact_algebra.proofs.Signs.{positive_nonzero}
+use Rattle.rational_laws.specs.Fraction.{Fraction, rational}
+use Rattle.rational_laws.specs.Rational.{whole, ◌≤ℚ◌}
+use Rattle.rational_laws.proofs.Signs.{positive_nonzero}
 use Rattle.loss_model.specs.declared.problem.Row.{Row}
 use Rattle.loss_model.specs.declared.problem.Problem.{Problem}
 use Rattle.loss_model.specs.Problem.{value_at, sample, IsWellShaped}
-use Rattle.exact_algebra.specs.WholeLists.{whole_at}
-use Rattle.scaled_model.specs.Scaled.{IsScaled}
+use Rattle.rational_laws.specs.WholeLists.{whole_at}
+use Rattle.whole_rows.specs.Scaled.{IsScaled}
 use Rattle.whole_rows.specs.declared.factor.Factor.{Factor}
 use Rattle.whole_rows.specs.declared.rows.WholeRow.{WholeRow}
 use Rattle.whole_rows.specs.Wholes.{factor_value, factor_at, IsPositive, IsWholeRow, ArePaired, sample_of_rows}

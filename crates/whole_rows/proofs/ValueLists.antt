@@ -1,8 +1,8 @@
 -- Lists of values that grow.
 use Rattle.std.specs.Prelude.{◌≡◌, ℕ, zero, suc, ◌+◌, ◌<◌, List, [], ◌∷◌, ◌++◌, length}
 use Rattle.std.proofs.Common.{arith}
-use Rattle.exact_algebra.specs.Fraction.{Fraction, rational}
-use Rattle.exact_algebra.specs.Rational.{ℚ}
+use Rattle.rational_laws.specs.Fraction.{Fraction, rational}
+use Rattle.rational_laws.specs.Rational.{ℚ}
 use Rattle.loss_model.specs.Problem.{value_at}
 
 pub value_pushed : {F : Type 0} (value : F → Fraction) (made : List F) (x : F) (n : ℕ) (f : ℕ → ℚ) → length made ≡ n → ((k : ℕ) → k < n → value_at value made k ≡ f k) → rational (value x) ≡ f n → (k : ℕ) → k < n + 1

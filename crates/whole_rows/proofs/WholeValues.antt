@@ -2,11 +2,11 @@
 use Rattle.std.specs.Prelude.{◌≡◌, ℕ, ℤ, ◌≤◌, ◌≤ℤ◌, ◌*ℤ◌, [], ◌∷◌, pos}
 use Rattle.std.proofs.Common.{refl, sym, ap, subst, ◌∙◌, arith}
 use Rattle.std.proofs.lemmas.Int.{ints}
-use Rattle.exact_algebra.specs.Solver.{number, negated, ◌⊠◌, v0, v1, v2, v3, v4}
-use Rattle.exact_algebra.specs.Rational.{ℚ, ◌*ℚ◌, whole, inverse, quotient, ◌≤ℚ◌}
-use Rattle.exact_algebra.proofs.RationalLaws.{whole-mul, *ℚ-inverse, ring_ℚ, ring_by_ℚ, ≤ℚ_mul}
-use Rattle.exact_algebra.proofs.WholeNumbers.{le_from_whole, whole-le}
-use Rattle.exact_algebra.proofs.Signs.{whole_nonzero}
+use Rattle.rational_laws.specs.Solver.{number, negated, ◌⊠◌, v0, v1, v2, v3, v4}
+use Rattle.rational_laws.specs.Rational.{ℚ, ◌*ℚ◌, whole, inverse, quotient, ◌≤ℚ◌}
+use Rattle.rational_laws.proofs.RationalLaws.{whole-mul, *ℚ-inverse, ring_ℚ, ring_by_ℚ, ≤ℚ_mul}
+use Rattle.rational_laws.proofs.WholeNumbers.{le_from_whole, whole-le}
+use Rattle.rational_laws.proofs.Signs.{whole_nonzero}
 use Rattle.whole_inverse.specs.Shares.{share}
 
 steps : (q n o d u i j : ℚ) → d *ℚ i ≡ whole (pos 1) → u *ℚ j ≡ whole (pos 1) → q *ℚ (d *ℚ u) ≡ n *ℚ o → q ≡ (o *ℚ j) *ℚ (n *ℚ i)

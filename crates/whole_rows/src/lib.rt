@@ -7,6 +7,7 @@
 //! are dependent it refuses too: the fractions tell that, with the combination. A law leads from there to the greedy basis of
 //! the problem itself, and `greedy_start` to its inverse in fractions: it has the contract of the start of `basis_inverse`, which it
 //! falls back on. Numerators over a denominator, times or over the factors, are read as fractions where they fit.
+//! What factors change at a basis is a law too: nothing that a step reads but factors.
 //!
 //! `whole_tableau` calls it so, and `rank_inversion` has the inverse in fractions:
 //! ```text

@@ -1,10 +1,10 @@
 //! The rows of a problem in whole numbers.
 ghost use Rattle.std.specs.Prelude.{◌≡◌, ◌≢◌, ℕ, ◌<◌, ◌≤◌, All, length, IfOk, pos};
-ghost use Rattle.exact_algebra.specs.Fraction.{rational};
-ghost use Rattle.exact_algebra.specs.Rational.{◌*ℚ◌, ◌≤ℚ◌, whole};
+ghost use Rattle.rational_laws.specs.Fraction.{rational};
+ghost use Rattle.rational_laws.specs.Rational.{◌*ℚ◌, ◌≤ℚ◌, whole};
 ghost use Rattle.loss_model.specs.Problem.{sample, value_at, IsWellShaped};
-ghost use Rattle.exact_algebra.specs.WholeLists.{whole_at};
-ghost use Rattle.scaled_model.specs.Scaled.{IsScaled};
+ghost use Rattle.rational_laws.specs.WholeLists.{whole_at};
+ghost use Rattle.whole_rows.specs.Scaled.{IsScaled};
 ghost use Rattle.whole_rows.specs.Wholes.{factor_value, factor_at, IsPositive, IsWholeRow, ArePaired, whole_sample};
 
 use crate::factor::{Factor, plain_factor, reduced_factor, whole_value};

@@ -3,12 +3,12 @@ use Rattle.std.specs.Prelude.{◌≡◌, ◌≢◌, ℕ, ℤ, ◌+◌, ◌<◌, 
 use Rattle.std.proofs.Common.{arith, refl, sym, ap, subst, ◌∙◌}
 use Rattle.std.proofs.lemmas.Int.{ints}
 use borrow.Author.Tests.{eqb-true, eqb-false}
-use Rattle.exact_algebra.specs.Rational.{ℚ, ◌+ℚ◌, ◌-ℚ◌, whole, ◌≤ℚ◌}
-use Rattle.exact_algebra.proofs.RationalLaws.{≤ℚ_trans, whole-add}
-use Rattle.exact_algebra.proofs.WholeNumbers.{whole-le, whole-neg}
+use Rattle.rational_laws.specs.Rational.{ℚ, ◌+ℚ◌, ◌-ℚ◌, whole, ◌≤ℚ◌}
+use Rattle.rational_laws.proofs.RationalLaws.{≤ℚ_trans, whole-add}
+use Rattle.rational_laws.proofs.WholeNumbers.{whole-le, whole-neg}
 use Rattle.loss_model.specs.Spill.{abs_ℚ}
-use Rattle.exact_algebra.specs.WholeLists.{whole_at}
-use Rattle.exact_algebra.proofs.WholeLists.{whole_last, whole_before}
+use Rattle.rational_laws.specs.WholeLists.{whole_at}
+use Rattle.rational_laws.proofs.WholeLists.{whole_last, whole_before}
 use Rattle.whole_rows.specs.declared.rows.WholeRow.{WholeRow}
 use Rattle.whole_rows.specs.Wholes.{of_whole}
 use Rattle.whole_solution.specs.Ranges.{half_at}

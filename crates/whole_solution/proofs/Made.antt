@@ -1,19 +1,19 @@
 -- The side of a row by numerators.
 use Rattle.std.specs.Prelude.{◌≡◌, ◌≢◌, ℕ, ℤ, true, false, ◌<◌, ◌≤ℤ◌, List, length, pos, if◌then◌else◌}
 use Rattle.std.proofs.Common.{refl, sym, ap, ◌∙◌, get_or}
-use Rattle.exact_algebra.specs.Rational.{ℚ, ◌*ℚ◌, neg_ℚ, whole}
-use Rattle.exact_algebra.proofs.RationalSumLaws.{sum_ℚ-same}
-use Rattle.exact_algebra.specs.Order.{cmp_ℚ}
-use Rattle.exact_matrices.specs.Matrices.{coordinate}
-use Rattle.exact_matrices.specs.Selections.{is_among}
-use Rattle.pivot_rule.proofs.Among.{among_at}
+use Rattle.rational_laws.specs.Rational.{ℚ, ◌*ℚ◌, neg_ℚ, whole}
+use Rattle.rational_laws.proofs.RationalSumLaws.{sum_ℚ-same}
+use Rattle.rational_laws.specs.Order.{cmp_ℚ}
+use Rattle.rational_laws.specs.Matrices.{coordinate}
+use Rattle.rational_laws.specs.Selections.{is_among}
+use Rattle.pivot_model.proofs.Among.{among_at}
 use Rattle.loss_model.specs.declared.vertex.Side.TheVariants.{Up, Basic}
 use Rattle.loss_model.specs.Sample.{Sample, residual}
 use Rattle.basis_model.specs.Perturbed.{IsOutside, perturbed_side, side_of}
 use Rattle.basis_model.proofs.Signs.{side-residual, perturbed_side-same}
 use Rattle.basis_model.specs.Basis.{coefficient, coord, outside_row, side_at}
 use Rattle.lex_rule.specs.Scan.{AreZeroBetween, IsNextAt}
-use Rattle.exact_algebra.specs.WholeLists.{whole_at}
+use Rattle.rational_laws.specs.WholeLists.{whole_at}
 use Rattle.whole_inverse.specs.Shares.{share, share_at}
 use Rattle.whole_inverse.proofs.Lists.{share_read}
 use Rattle.whole_rows.specs.declared.rows.WholeRow.{WholeRow}

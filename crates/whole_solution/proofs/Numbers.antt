@@ -6,17 +6,17 @@ use Rattle.std.specs.declared.cmp.Ordering.{Ordering}
 use Rattle.std.proofs.Common.{refl, sym, ap, ap₂, subst, ◌∙◌, get_or, arith}
 use Rattle.std.proofs.lemmas.Int.{ints}
 use Rattle.std.proofs.lemmas.Option.{slice_get-get_or}
-use Rattle.exact_algebra.specs.Solver.{number, negated, ◌⊞◌, ◌⊟◌, ◌⊠◌, v0, v1, v2, v3}
-use Rattle.exact_algebra.specs.Rational.{ℚ, ◌+ℚ◌, ◌-ℚ◌, ◌*ℚ◌, neg_ℚ, whole, inverse, ◌≤ℚ◌}
-use Rattle.exact_algebra.proofs.RationalLaws.{whole-add, whole-mul, *ℚ-inverse, ring_ℚ, ring_by_ℚ, ≤ℚ_mul}
-use Rattle.exact_algebra.specs.Order.{cmp_ℚ}
-use Rattle.exact_algebra.proofs.OrderLaws.{cmp_ℚ-Greater, cmp_ℚ-not_Greater, ≤ℚ-from_mul}
-use Rattle.exact_algebra.proofs.WholeNumbers.{same_from_whole, le_from_whole, whole-le, whole-neg}
-use Rattle.exact_algebra.proofs.Signs.{whole_nonzero}
+use Rattle.rational_laws.specs.Solver.{number, negated, ◌⊞◌, ◌⊟◌, ◌⊠◌, v0, v1, v2, v3}
+use Rattle.rational_laws.specs.Rational.{ℚ, ◌+ℚ◌, ◌-ℚ◌, ◌*ℚ◌, neg_ℚ, whole, inverse, ◌≤ℚ◌}
+use Rattle.rational_laws.proofs.RationalLaws.{whole-add, whole-mul, *ℚ-inverse, ring_ℚ, ring_by_ℚ, ≤ℚ_mul}
+use Rattle.rational_laws.specs.Order.{cmp_ℚ}
+use Rattle.rational_laws.proofs.OrderLaws.{cmp_ℚ-Greater, cmp_ℚ-not_Greater, ≤ℚ-from_mul}
+use Rattle.rational_laws.proofs.WholeNumbers.{same_from_whole, le_from_whole, whole-le, whole-neg}
+use Rattle.rational_laws.proofs.Signs.{whole_nonzero}
 use Rattle.loss_model.specs.declared.vertex.Side.TheVariants.{Up, Down}
 use Rattle.basis_model.specs.Perturbed.{side_of}
 use Rattle.lex_rule.specs.Scan.{AreZeroAt}
-use Rattle.exact_algebra.specs.WholeLists.{whole_at}
+use Rattle.rational_laws.specs.WholeLists.{whole_at}
 use Rattle.whole_inverse.specs.Shares.{share, share_at}
 
 pub times : (r d : ℤ) → pos 1 ≤ℤ d → whole d *ℚ share r d ≡ whole r

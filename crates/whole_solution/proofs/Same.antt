@@ -1,13 +1,13 @@
 -- What all rows weigh, and what balances it.
 use Rattle.std.specs.Prelude.{◌≡◌, ℕ, ◌<◌}
 use Rattle.std.proofs.Common.{ap, ◌∙◌}
-use Rattle.exact_algebra.specs.Rational.{ℚ, ◌-ℚ◌, ◌*ℚ◌, neg_ℚ}
-use Rattle.exact_algebra.proofs.RationalSumLaws.{sum_ℚ-same}
+use Rattle.rational_laws.specs.Rational.{ℚ, ◌-ℚ◌, ◌*ℚ◌, neg_ℚ}
+use Rattle.rational_laws.proofs.RationalSumLaws.{sum_ℚ-same}
 use Rattle.loss_model.specs.declared.vertex.Side.{Side}
 use Rattle.loss_model.specs.Sample.{Sample, residual}
 use Rattle.basis_model.specs.declared.part.Part.{Part}
 use Rattle.basis_model.specs.Basis.{side_at, bound_part, nonbasic_total, balancing, basic_dual}
-use Rattle.exact_algebra.specs.WholeLists.{whole_at}
+use Rattle.rational_laws.specs.WholeLists.{whole_at}
 use Rattle.whole_solution.specs.declared.totals.Totals.{Totals}
 use Rattle.whole_solution.specs.declared.totals.Weights.{Weights}
 use Rattle.whole_solution.specs.Weighing.{weighed, AreTotals, AreWeights}

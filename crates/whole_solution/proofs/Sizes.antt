@@ -2,15 +2,15 @@
 use Rattle.std.specs.Prelude.{◌≡◌, ◌⊎◌, ℤ, neg_ℤ, unsigned_abs, [], ◌∷◌, pos, negsuc}
 use Rattle.std.proofs.Common.{arith, refl, sym, ap, subst, ◌∙◌, inl, inr}
 use Rattle.std.proofs.lemmas.Int.{ints}
-use Rattle.exact_algebra.specs.Solver.{number, negated, ◌⊞◌, ◌⊟◌, ◌⊠◌, v0, v1}
-use Rattle.exact_algebra.specs.Rational.{ℚ, ◌+ℚ◌, ◌*ℚ◌, neg_ℚ, whole, ◌≤ℚ◌}
-use Rattle.exact_algebra.proofs.RationalLaws.{ring_ℚ, ≤ℚ_refl, ≤ℚ_trans, ≤ℚ_mul}
-use Rattle.exact_algebra.proofs.RationalSumLaws.{≤ℚ_add2}
-use Rattle.exact_algebra.proofs.OrderLaws.{le_from_not}
-use Rattle.exact_algebra.proofs.WholeNumbers.{whole-le, whole-neg}
+use Rattle.rational_laws.specs.Solver.{number, negated, ◌⊞◌, ◌⊟◌, ◌⊠◌, v0, v1}
+use Rattle.rational_laws.specs.Rational.{ℚ, ◌+ℚ◌, ◌*ℚ◌, neg_ℚ, whole, ◌≤ℚ◌}
+use Rattle.rational_laws.proofs.RationalLaws.{ring_ℚ, ≤ℚ_refl, ≤ℚ_trans, ≤ℚ_mul}
+use Rattle.rational_laws.proofs.RationalSumLaws.{≤ℚ_add2}
+use Rattle.rational_laws.proofs.OrderLaws.{le_from_not}
+use Rattle.rational_laws.proofs.WholeNumbers.{whole-le, whole-neg}
 use Rattle.loss_model.specs.Spill.{abs_ℚ}
-use Rattle.pivot_rule.proofs.Entering.{abs_above, abs_below, negated_not_negative}
-use Rattle.walk_rule.proofs.Lines.{decide, le_by}
+use Rattle.pivot_model.proofs.Entering.{abs_above, abs_below, negated_not_negative}
+use Rattle.walk_model.proofs.Lines.{decide, le_by}
 
 pub not_above : (x : ℚ) → ¬ (whole (pos 0) ≤ℚ x) → x ≤ℚ whole (pos 0)
 not_above x h = le_from_not x (whole (pos 0)) h

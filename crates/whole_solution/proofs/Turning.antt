@@ -2,13 +2,13 @@
 use Rattle.std.specs.Prelude.{◌≡◌, ◌≢◌, ℕ, zero, suc, ◌+◌, ◌-◌, ◌<◌, ◌≤◌, Bool, true, false, ◌==◌, List, length, slice_set}
 use Rattle.std.proofs.Common.{arith, refl, sym, subst, ◌∙◌}
 use borrow.Author.Tests.{eqb-true, eqb-false}
-use Rattle.exact_algebra.specs.Rational.{◌-ℚ◌, whole}
+use Rattle.rational_laws.specs.Rational.{◌-ℚ◌, whole}
 use Rattle.loss_model.specs.declared.vertex.Side.{Side}
 use Rattle.loss_model.specs.Sample.{Sample}
 use Rattle.basis_model.specs.declared.part.Part.{Part}
 use Rattle.basis_model.specs.declared.part.Part.TheVariants.{Constant, Linear}
 use Rattle.basis_model.specs.Basis.{bound_part}
-use Rattle.exact_algebra.specs.WholeLists.{whole_at}
+use Rattle.rational_laws.specs.WholeLists.{whole_at}
 use Rattle.whole_rows.specs.declared.rows.WholeRow.{WholeRow}
 use Rattle.whole_solution.specs.declared.totals.Totals.{Totals}
 use Rattle.whole_solution.specs.declared.totals.Weights.{Weights}

@@ -1,15 +1,15 @@
 -- Sums of products with numbers in ranges.
 use Rattle.std.specs.Prelude.{◌≡◌, ◌⊎◌, ℕ, ℤ, ◌+◌, ◌*◌, ◌<◌, ◌+ℤ◌, ◌*ℤ◌, [], ◌∷◌, length, get_or, slice_index, unsigned_abs, pos}
 use Rattle.std.proofs.Common.{refl, sym, ap, ap₂, subst, ◌∙◌, inl, inr}
-use Rattle.exact_algebra.specs.Solver.{number, negated, ◌⊞◌, ◌⊟◌, ◌⊠◌, v0, v1, v2}
-use Rattle.exact_algebra.specs.Rational.{ℚ, ◌+ℚ◌, ◌-ℚ◌, ◌*ℚ◌, neg_ℚ, whole, ◌≤ℚ◌}
-use Rattle.exact_algebra.proofs.RationalLaws.{ring_ℚ, ≤ℚ_refl, ≤ℚ_mul, whole-add, whole-mul}
-use Rattle.exact_algebra.specs.RationalSums.{sum_ℚ}
-use Rattle.exact_algebra.proofs.RationalSumLaws.{sum_ℚ-add, sum_ℚ-le, sum_ℚ-next, sum_ℚ-same, sum_ℚ-scale}
+use Rattle.rational_laws.specs.Solver.{number, negated, ◌⊞◌, ◌⊟◌, ◌⊠◌, v0, v1, v2}
+use Rattle.rational_laws.specs.Rational.{ℚ, ◌+ℚ◌, ◌-ℚ◌, ◌*ℚ◌, neg_ℚ, whole, ◌≤ℚ◌}
+use Rattle.rational_laws.proofs.RationalLaws.{ring_ℚ, ≤ℚ_refl, ≤ℚ_mul, whole-add, whole-mul}
+use Rattle.rational_laws.specs.RationalSums.{sum_ℚ}
+use Rattle.rational_laws.proofs.RationalSumLaws.{sum_ℚ-add, sum_ℚ-le, sum_ℚ-next, sum_ℚ-same, sum_ℚ-scale}
 use Rattle.loss_model.specs.Spill.{abs_ℚ}
-use Rattle.pivot_rule.proofs.Entering.{abs_above, abs_below}
-use Rattle.walk_rule.proofs.Lines.{decide}
-use Rattle.exact_algebra.specs.WholeLists.{whole_at}
+use Rattle.pivot_model.proofs.Entering.{abs_above, abs_below}
+use Rattle.walk_model.proofs.Lines.{decide}
+use Rattle.rational_laws.specs.WholeLists.{whole_at}
 use Rattle.whole_solution.specs.declared.ranges.Ranges.{Ranges}
 use Rattle.whole_solution.specs.Ranges.{at_halves, at_middles, half_at, most_of_products, AreInRanges, ProductsStayInRange}
 use Rattle.whole_solution.proofs.Numbers.{whole_read}

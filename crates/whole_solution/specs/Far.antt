@@ -1,6 +1,6 @@
 -- Inner. Rows far from a fit, which keep their sides while the coefficients move little.
 use Rattle.std.specs.Prelude.{◌≡◌, ◌⊎◌, ℕ, ℤ, ◌<◌, ◌≤◌, ◌≤ℤ◌, ◌*ℤ◌, ◌+ℤ◌, neg_ℤ, List, All, length, get_or, slice_index, pos}
-use Rattle.exact_algebra.specs.Rational.{ℚ, ◌-ℚ◌, neg_ℚ, ◌≤ℚ◌, whole}
+use Rattle.rational_laws.specs.Rational.{ℚ, ◌-ℚ◌, neg_ℚ, ◌≤ℚ◌, whole}
 use Rattle.loss_model.specs.declared.vertex.Side.{Side}
 use Rattle.loss_model.specs.declared.vertex.Side.TheVariants.{Up, Down, Basic}
 use Rattle.loss_model.specs.Sample.{Sample, residual}

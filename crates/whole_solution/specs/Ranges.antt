@@ -1,10 +1,10 @@
 -- Inner. Ranges of numbers, and how much their products with others can come to.
 use Rattle.std.specs.Prelude.{◌≡◌, ℕ, ◌<◌, List, length, slice_index, pos}
-use Rattle.exact_algebra.specs.Rational.{ℚ, ◌+ℚ◌, ◌-ℚ◌, ◌*ℚ◌, ◌≤ℚ◌, whole}
-use Rattle.exact_algebra.specs.RationalSums.{sum_ℚ}
+use Rattle.rational_laws.specs.Rational.{ℚ, ◌+ℚ◌, ◌-ℚ◌, ◌*ℚ◌, ◌≤ℚ◌, whole}
+use Rattle.rational_laws.specs.RationalSums.{sum_ℚ}
 use Rattle.loss_model.specs.Sample.{Sample}
 use Rattle.loss_model.specs.Spill.{abs_ℚ}
-use Rattle.exact_algebra.specs.WholeLists.{whole_at}
+use Rattle.rational_laws.specs.WholeLists.{whole_at}
 use Rattle.whole_solution.specs.declared.ranges.Ranges.{Ranges}
 
 -- half the width of range k

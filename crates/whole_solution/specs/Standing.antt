@@ -1,7 +1,7 @@
 -- Inner. A basis of rows in whole numbers, and what stands there.
 use Rattle.std.specs.Prelude.{◌≡◌, ◌≢◌, ℕ, ℤ, ◌<◌, ◌≤◌, ◌^◌, List, [], ◌∷◌, All, IfSome, length, pos, slice_get, slice_index, unwrap_or, unsigned_abs}
-use Rattle.exact_algebra.specs.Rational.{ℚ}
-use Rattle.exact_matrices.specs.Selections.{AreDistinct}
+use Rattle.rational_laws.specs.Rational.{ℚ}
+use Rattle.rational_laws.specs.Selections.{AreDistinct}
 use Rattle.loss_model.specs.declared.vertex.Side.{Side}
 use Rattle.loss_model.specs.declared.vertex.Side.TheVariants.{Basic}
 use Rattle.loss_model.specs.Sample.{Sample, residual}

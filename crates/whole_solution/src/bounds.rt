@@ -1,6 +1,6 @@
 //! The bounds of the dual value of a row.
 ghost use Rattle.std.specs.Prelude.{◌≡◌, IfOk, pos};
-ghost use Rattle.exact_algebra.specs.Rational.{neg_ℚ, whole};
+ghost use Rattle.rational_laws.specs.Rational.{neg_ℚ, whole};
 ghost use Rattle.whole_solution.specs.Weighing.{bound_of};
 
 use basis_model::Part;

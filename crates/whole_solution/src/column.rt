@@ -1,9 +1,9 @@
 //! A column of numerators that many rows are multiplied by, one row at a time.
 ghost use Rattle.std.specs.Prelude.{◌≡◌, ℤ, ◌*◌, ◌^◌, ◌<◌, ◌≤◌, All, length, unsigned_abs, IfSome};
-ghost use Rattle.exact_algebra.specs.Rational.{◌*ℚ◌};
-ghost use Rattle.exact_algebra.specs.RationalSums.{sum_ℚ};
+ghost use Rattle.rational_laws.specs.Rational.{◌*ℚ◌};
+ghost use Rattle.rational_laws.specs.RationalSums.{sum_ℚ};
 ghost use Rattle.wide_int.specs.Numbers.{sizes, total};
-ghost use Rattle.exact_algebra.specs.WholeLists.{whole_at};
+ghost use Rattle.rational_laws.specs.WholeLists.{whole_at};
 ghost use Rattle.whole_inverse.specs.Shares.{share, share_at};
 ghost use Rattle.whole_solution.specs.Columns.{IsColumn, HasWidth};
 

@@ -1,8 +1,8 @@
 //! The dual values of the rows of a basis, which balance what the others weigh.
 ghost use Rattle.std.specs.Prelude.{◌≡◌, ℕ, ℤ, ◌<◌, ◌^◌, length, IfOk, All};
-ghost use Rattle.exact_algebra.specs.Rational.{neg_ℚ};
+ghost use Rattle.rational_laws.specs.Rational.{neg_ℚ};
 ghost use Rattle.basis_model.specs.Basis.{balancing};
-ghost use Rattle.exact_algebra.specs.WholeLists.{whole_at};
+ghost use Rattle.rational_laws.specs.WholeLists.{whole_at};
 ghost use Rattle.whole_inverse.specs.Shares.{share, share_at, shares};
 
 use crate::primal::product_of;

@@ -4,7 +4,7 @@
 //! the coefficients, of all rows at once. While that is less than the distance, far rows keep their sides and have residuals of at least
 //! what is left of it, the reach, so that only near rows are looked at.
 ghost use Rattle.std.specs.Prelude.{◌≡◌, ℕ, ℤ, ◌*◌, ◌<◌, ◌≤◌, ◌^◌, ◌≤ℤ◌, All, length, IfOk, IfSome, IsTrue, pos};
-ghost use Rattle.exact_algebra.specs.Rational.{◌+ℚ◌, ◌≤ℚ◌, whole};
+ghost use Rattle.rational_laws.specs.Rational.{◌+ℚ◌, ◌≤ℚ◌, whole};
 ghost use Rattle.loss_model.specs.declared.vertex.Side.TheVariants.{Up, Down};
 ghost use Rattle.wide_int.specs.Numbers.{joined, number_of};
 ghost use Rattle.whole_inverse.specs.Shares.{share, share_at};

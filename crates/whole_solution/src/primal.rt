@@ -1,9 +1,9 @@
 //! The numerators of the coefficients at a basis, and of the residuals of all rows.
 ghost use Rattle.std.specs.Prelude.{◌≡◌, ℕ, ℤ, ◌*◌, ◌^◌, ◌<◌, ◌≤◌, ◌≤ℤ◌, ◌*ℤ◌, All, length, slice_index, unsigned_abs, IfOk, IfSome, pos};
-ghost use Rattle.exact_algebra.specs.Rational.{◌-ℚ◌, ◌*ℚ◌, whole};
-ghost use Rattle.exact_algebra.specs.RationalSums.{sum_ℚ};
+ghost use Rattle.rational_laws.specs.Rational.{◌-ℚ◌, ◌*ℚ◌, whole};
+ghost use Rattle.rational_laws.specs.RationalSums.{sum_ℚ};
 ghost use Rattle.basis_model.specs.Basis.{coefficient};
-ghost use Rattle.exact_algebra.specs.WholeLists.{whole_at};
+ghost use Rattle.rational_laws.specs.WholeLists.{whole_at};
 ghost use Rattle.whole_inverse.specs.Shares.{share, share_at, shares};
 ghost use Rattle.whole_inverse.specs.Squares.{inverse_of};
 ghost use Rattle.whole_rows.specs.Wholes.{of_whole, sample_of_rows};

@@ -1,8 +1,8 @@
 //! The products of all rows and a column of numerators.
 ghost use Rattle.std.specs.Prelude.{◌≡◌, ℕ, ℤ, ◌<◌, ◌≤◌, All, length, unsigned_abs, IfOk};
-ghost use Rattle.exact_algebra.specs.Rational.{◌*ℚ◌};
-ghost use Rattle.exact_algebra.specs.RationalSums.{sum_ℚ};
-ghost use Rattle.exact_algebra.specs.WholeLists.{whole_at};
+ghost use Rattle.rational_laws.specs.Rational.{◌*ℚ◌};
+ghost use Rattle.rational_laws.specs.RationalSums.{sum_ℚ};
+ghost use Rattle.rational_laws.specs.WholeLists.{whole_at};
 ghost use Rattle.whole_inverse.specs.Shares.{share_at};
 ghost use Rattle.whole_rows.specs.Wholes.{of_whole};
 ghost use Rattle.whole_solution.specs.Columns.{IsColumn};

@@ -4,7 +4,7 @@
 //! half a width for each. So a column without a spread, such as an intercept, and one whose entries are far from 0 leave no more doubt
 //! than they must.
 ghost use Rattle.std.specs.Prelude.{◌≡◌, ℕ, ◌<◌, All, length, IfOk, pos};
-ghost use Rattle.exact_algebra.specs.Rational.{◌-ℚ◌, ◌≤ℚ◌, whole};
+ghost use Rattle.rational_laws.specs.Rational.{◌-ℚ◌, ◌≤ℚ◌, whole};
 ghost use Rattle.loss_model.specs.Spill.{abs_ℚ};
 ghost use Rattle.whole_rows.specs.Wholes.{sample_of_rows};
 ghost use Rattle.whole_solution.specs.Ranges.{AreRanges};

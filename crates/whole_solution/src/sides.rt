@@ -1,11 +1,11 @@
 //! The sides of all rows.
 ghost use Rattle.std.specs.Prelude.{◌≡◌, ◌≢◌, ℕ, ℤ, ◌<◌, ◌≤◌, ◌≤ℤ◌, false, if◌then◌else◌, All, length, slice_index, unsigned_abs, IfOk, pos};
-ghost use Rattle.exact_matrices.specs.Selections.{is_among};
+ghost use Rattle.rational_laws.specs.Selections.{is_among};
 ghost use Rattle.loss_model.specs.declared.vertex.Side.TheVariants.{Basic};
 ghost use Rattle.loss_model.specs.Sample.{residual};
 ghost use Rattle.basis_model.specs.Perturbed.{perturbed_side};
 ghost use Rattle.basis_model.specs.Basis.{coefficient, outside_row, side_at};
-ghost use Rattle.exact_algebra.specs.WholeLists.{whole_at};
+ghost use Rattle.rational_laws.specs.WholeLists.{whole_at};
 ghost use Rattle.whole_inverse.specs.Shares.{share, share_at};
 ghost use Rattle.whole_inverse.specs.Squares.{inverse_of};
 ghost use Rattle.whole_rows.specs.Wholes.{sample_of_rows};

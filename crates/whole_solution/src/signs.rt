@@ -1,7 +1,7 @@
 //! The sign of a perturbed residual.
 ghost use Rattle.std.specs.Prelude.{◌≡◌, ℕ, ℤ, ◌<◌, ◌≤ℤ◌, length, slice_index, pos};
-ghost use Rattle.exact_algebra.specs.Rational.{neg_ℚ, whole};
-ghost use Rattle.exact_algebra.specs.Order.{cmp_ℚ};
+ghost use Rattle.rational_laws.specs.Rational.{neg_ℚ, whole};
+ghost use Rattle.rational_laws.specs.Order.{cmp_ℚ};
 ghost use Rattle.basis_model.specs.Perturbed.{IsOutside, perturbed_side, side_of};
 ghost use Rattle.whole_inverse.specs.Shares.{share};
 ghost use Rattle.whole_solution.specs.Outside.{outside_of};

@@ -1,6 +1,6 @@
 //! All that stands at a basis, together.
 ghost use Rattle.std.specs.Prelude.{◌≡◌, ◌⊎◌, ℕ, ◌<◌, ◌≤◌, false, All, length, slice_index, IfOk, IfSome, IsTrue};
-ghost use Rattle.exact_matrices.specs.Selections.{is_among};
+ghost use Rattle.rational_laws.specs.Selections.{is_among};
 ghost use Rattle.loss_model.specs.Sample.{residual};
 ghost use Rattle.loss_model.specs.declared.vertex.Side.TheVariants.{Basic};
 ghost use Rattle.basis_model.specs.Basis.{coefficient, side_at};

@@ -2,11 +2,11 @@
 //!
 //! From one basis to the next few rows change sides, so that the totals are not made anew.
 ghost use Rattle.std.specs.Prelude.{◌≡◌, ℕ, ℤ, ◌<◌, ◌+ℤ◌, ◌*ℤ◌, ◌≤ℤ◌, neg_ℤ, pos, All, List as list, length, IfOk, IfSome, IsTrue, OnOk};
-ghost use Rattle.exact_algebra.specs.Rational.{◌+ℚ◌, ◌-ℚ◌, ◌*ℚ◌, whole};
-ghost use Rattle.exact_algebra.specs.RationalSums.{sum_ℚ};
+ghost use Rattle.rational_laws.specs.Rational.{◌+ℚ◌, ◌-ℚ◌, ◌*ℚ◌, whole};
+ghost use Rattle.rational_laws.specs.RationalSums.{sum_ℚ};
 ghost use Rattle.wide_int.specs.Numbers.{number_of, total as sum};
 ghost use Rattle.loss_model.specs.declared.vertex.Side.TheVariants.{Basic};
-ghost use Rattle.exact_algebra.specs.WholeLists.{whole_at};
+ghost use Rattle.rational_laws.specs.WholeLists.{whole_at};
 ghost use Rattle.whole_inverse.specs.Shares.{share, share_at};
 ghost use Rattle.whole_rows.specs.Wholes.{sample_of_rows};
 ghost use Rattle.whole_rows.specs.declared.rows.WholeRow.{WholeRow as Row};

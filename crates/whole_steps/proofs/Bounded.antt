@@ -5,11 +5,11 @@ use Rattle.std.proofs.Common.{arith, refl, ap, ◌∙◌}
 use Rattle.std.proofs.lemmas.Int.{ints}
 use Rattle.std.proofs.lemmas.Grind.{common_steps}
 use Rattle.std.proofs.lemmas.Nat.{mul-le}
-use Rattle.exact_algebra.specs.Solver.{◌⊠◌, v0, v1}
-use Rattle.exact_algebra.specs.Rational.{◌*ℚ◌, whole, inverse}
-use Rattle.exact_algebra.proofs.RationalLaws.{ring_ℚ}
-use Rattle.exact_algebra.proofs.OrderLaws.{inverse_not_negative}
-use Rattle.exact_algebra.proofs.WholeNumbers.{whole-le}
+use Rattle.rational_laws.specs.Solver.{◌⊠◌, v0, v1}
+use Rattle.rational_laws.specs.Rational.{◌*ℚ◌, whole, inverse}
+use Rattle.rational_laws.proofs.RationalLaws.{ring_ℚ}
+use Rattle.rational_laws.proofs.OrderLaws.{inverse_not_negative}
+use Rattle.rational_laws.proofs.WholeNumbers.{whole-le}
 use Rattle.whole_inverse.specs.Shares.{share, share_at}
 use Rattle.whole_inverse.proofs.Lists.{share_read}
 use Rattle.whole_solution.specs.declared.ranges.Ranges.{Ranges}

@@ -3,11 +3,11 @@ use Rattle.std.specs.Prelude.{◌≡◌, ℕ, ℤ, ◌<◌, List, length, slice_
 use Rattle.std.specs.Option.{option_map_or}
 use Rattle.std.proofs.Common.{sym, ap, subst, ◌∙◌}
 use Rattle.std.proofs.lemmas.Option.{get_or_from_slice_get}
-use Rattle.exact_algebra.specs.Rational.{ℚ, ◌*ℚ◌, whole}
-use Rattle.exact_algebra.specs.RationalSums.{sum_ℚ}
-use Rattle.exact_algebra.proofs.RationalSumLaws.{sum_ℚ-same}
+use Rattle.rational_laws.specs.Rational.{ℚ, ◌*ℚ◌, whole}
+use Rattle.rational_laws.specs.RationalSums.{sum_ℚ}
+use Rattle.rational_laws.proofs.RationalSumLaws.{sum_ℚ-same}
 use Rattle.basis_model.specs.Basis.{coord}
-use Rattle.exact_algebra.specs.WholeLists.{whole_at}
+use Rattle.rational_laws.specs.WholeLists.{whole_at}
 use Rattle.whole_inverse.specs.Shares.{share, share_at}
 use Rattle.whole_inverse.specs.Squares.{WholeSquare, IsWholeSquare, inverse_of}
 use Rattle.whole_rows.specs.declared.rows.WholeRow.{WholeRow}

@@ -2,17 +2,17 @@
 use Rattle.std.specs.Prelude.{◌≡◌, ◌≢◌, ℕ, ℤ, ◌<◌, ◌≤ℤ◌, ◌<ℤ◌, neg_ℤ, unsigned_abs, Option, Some, None, pos}
 use Rattle.std.proofs.Common.{arith, sym, ap, ap₂, subst, ◌∙◌}
 use Rattle.std.proofs.lemmas.Int.{ints}
-use Rattle.exact_algebra.specs.Fraction.{rational}
-use Rattle.exact_algebra.specs.Rational.{ℚ, ◌*ℚ◌, neg_ℚ, inverse, whole, ◌≤ℚ◌}
-use Rattle.exact_algebra.proofs.RationalLaws.{≤ℚ_refl}
-use Rattle.exact_algebra.proofs.Signs.{not_below}
+use Rattle.rational_laws.specs.Fraction.{rational}
+use Rattle.rational_laws.specs.Rational.{ℚ, ◌*ℚ◌, neg_ℚ, inverse, whole, ◌≤ℚ◌}
+use Rattle.rational_laws.proofs.RationalLaws.{≤ℚ_refl}
+use Rattle.rational_laws.proofs.Signs.{not_below}
 use Rattle.basis_model.specs.declared.part.Part.TheVariants.{Constant, Linear}
-use Rattle.pivot_rule.specs.declared.direction.Direction.{Direction}
-use Rattle.walk_rule.specs.Families.{over_quantiles, IsOptimalIn}
-use Rattle.walk_rule.specs.Walks.{Crosses, IsNextBreak}
-use Rattle.walk_rule.proofs.Breaks.{as_computed}
-use Rattle.walk_rule.proofs.Slopes.{crossing}
-use Rattle.walk_rule.proofs.Trails.{below_from}
+use Rattle.pivot_model.specs.declared.direction.Direction.{Direction}
+use Rattle.walk_model.specs.Families.{over_quantiles, IsOptimalIn}
+use Rattle.walk_model.specs.Walks.{Crosses, IsNextBreak}
+use Rattle.walk_model.proofs.Breaks.{as_computed}
+use Rattle.walk_model.proofs.Slopes.{crossing}
+use Rattle.walk_model.proofs.Trails.{below_from}
 use Rattle.fraction_tableau.specs.declared.crossings.Breakpoint.{Breakpoint}
 use Rattle.fraction_tableau.specs.Crossings.{IsFirst, IsFirstOf}
 use Rattle.fraction_tableau.proofs.Soonest.{IsCrossingTowards as IsTowards}

@@ -3,12 +3,12 @@ use Rattle.std.specs.Prelude.{◌≡◌, ◌≢◌, ℕ, suc, ℤ, ◌*◌, ◌<
 use Rattle.std.specs.Ordering.{is_lt}
 use Rattle.std.proofs.Common.{arith, refl, sym, ap, ap₂, subst, ◌∙◌, inl, inr}
 use Rattle.std.proofs.lemmas.Int.{ints}
-use Rattle.exact_algebra.specs.Solver.{number, ◌⊠◌, v0, v1, v2, v3, v4}
-use Rattle.exact_algebra.specs.Rational.{ℚ, ◌*ℚ◌, inverse, whole, ◌≤ℚ◌}
-use Rattle.exact_algebra.specs.RationalSums.{sum_ℚ}
-use Rattle.exact_algebra.proofs.RationalLaws.{ring_ℚ, ring_by_ℚ, whole-mul, *ℚ-inverse, ≤ℚ_refl, ≤ℚ_trans, ≤ℚ_mul}
-use Rattle.exact_algebra.proofs.OrderLaws.{cmp_ℚ-Less}
-use Rattle.exact_algebra.proofs.WholeNumbers.{le_from_whole, same_from_whole, whole-le}
+use Rattle.rational_laws.specs.Solver.{number, ◌⊠◌, v0, v1, v2, v3, v4}
+use Rattle.rational_laws.specs.Rational.{ℚ, ◌*ℚ◌, inverse, whole, ◌≤ℚ◌}
+use Rattle.rational_laws.specs.RationalSums.{sum_ℚ}
+use Rattle.rational_laws.proofs.RationalLaws.{ring_ℚ, ring_by_ℚ, whole-mul, *ℚ-inverse, ≤ℚ_refl, ≤ℚ_trans, ≤ℚ_mul}
+use Rattle.rational_laws.proofs.OrderLaws.{cmp_ℚ-Less}
+use Rattle.rational_laws.proofs.WholeNumbers.{le_from_whole, same_from_whole, whole-le}
 use Rattle.loss_model.specs.declared.vertex.Side.{Side}
 use Rattle.loss_model.specs.declared.vertex.Side.TheVariants.{Up, Down, Basic}
 use Rattle.loss_model.specs.Spill.{abs_ℚ}
@@ -16,11 +16,11 @@ use Rattle.basis_model.proofs.LexicographicLaws.{lex_cmp-first}
 use Rattle.basis_model.specs.Perturbed.{turned, perturbed_side}
 use Rattle.basis_model.specs.Basis.{coord, outside_row, side_at}
 use Rattle.basis_model.proofs.Ratios.{abs_not_negative}
-use Rattle.pivot_rule.proofs.Passing.{mover_outside}
-use Rattle.pivot_rule.proofs.Sides.{side_outside}
+use Rattle.pivot_model.proofs.Passing.{mover_outside}
+use Rattle.pivot_model.proofs.Sides.{side_outside}
 use Rattle.whole_inverse.specs.Shares.{share, share_at}
 use Rattle.whole_inverse.specs.Squares.{WholeSquare}
-use Rattle.walk_rule.specs.Walks.{IsFirstMover}
+use Rattle.walk_model.specs.Walks.{IsFirstMover}
 use Rattle.whole_solution.specs.Far.{IsFarOn, IsNearOrFar}
 use Rattle.whole_solution.specs.Ranges.{most_of_products}
 use Rattle.whole_solution.specs.Standing.{side_in}

@@ -2,8 +2,8 @@
 use Rattle.std.specs.Prelude.{◌≡◌, ◌≢◌, ◌⊎◌, ℕ, ◌+◌, ◌<◌, Bool, true, false, ◌==◌, length, Option, Some, None, IfSome}
 use Rattle.std.proofs.Common.{arith, refl, sym, ap, subst, ◌∙◌, inl, inr}
 use borrow.Author.Tests.{eqb-true, eqb-false}
-use Rattle.pivot_rule.proofs.Passing.{mover_order, before_trans}
-use Rattle.walk_rule.specs.Walks.{IsFirstMover}
+use Rattle.pivot_model.proofs.Passing.{mover_order, before_trans}
+use Rattle.walk_model.specs.Walks.{IsFirstMover}
 use Rattle.whole_steps.specs.declared.line.Line.{Line}
 use Rattle.whole_steps.specs.declared.line.Mover.{Mover}
 use Rattle.whole_steps.specs.Lines.{model, at_of, inverse_at, IsLine, IsMover, IsBefore, IsEarlierMover, IsJoined, IsFirstMoverOf, IsFirstOf, is_moving, comes_before}

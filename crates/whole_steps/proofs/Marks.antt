@@ -1,7 +1,7 @@
 -- Rows that may come before a mover.
 use Rattle.std.specs.Prelude.{◌≡◌, ℕ, ◌<◌, Bool, true, false, ◌&&◌, List, get_or, length, IsTrue}
 use Rattle.std.proofs.Common.{refl, sym, ap₂, ◌∙◌}
-use Rattle.pivot_rule.proofs.Passing.{not_before_itself}
+use Rattle.pivot_model.proofs.Passing.{not_before_itself}
 use Rattle.whole_steps.specs.declared.line.Line.{Line}
 use Rattle.whole_steps.specs.Lines.{model, at_of, inverse_at, IsLine, is_moving, comes_before}
 use Rattle.whole_steps.specs.Rivals.{AreMarked}

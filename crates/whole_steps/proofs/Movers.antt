@@ -4,19 +4,19 @@ use Rattle.std.proofs.Common.{arith, refl, sym, ap, ap₂, ◌∙◌}
 use Rattle.std.proofs.lemmas.Int.{ints}
 use Rattle.frac_core.proofs.Signs.{some_size}
 use Rattle.fraction_tableau.proofs.Moving.{change_turned}
-use Rattle.exact_algebra.specs.Solver.{negated, ◌⊠◌, v0, v1}
-use Rattle.exact_algebra.specs.Rational.{ℚ, ◌*ℚ◌, inverse, whole}
-use Rattle.exact_algebra.proofs.RationalLaws.{ring_ℚ}
+use Rattle.rational_laws.specs.Solver.{negated, ◌⊠◌, v0, v1}
+use Rattle.rational_laws.specs.Rational.{ℚ, ◌*ℚ◌, inverse, whole}
+use Rattle.rational_laws.proofs.RationalLaws.{ring_ℚ}
 use Rattle.loss_model.specs.declared.vertex.Side.{Side}
 use Rattle.loss_model.specs.declared.vertex.Side.TheVariants.{Up, Down, Basic}
 use Rattle.loss_model.specs.Spill.{abs_ℚ}
 use Rattle.basis_model.specs.Perturbed.{turned, side_of, perturbed_side}
 use Rattle.basis_model.proofs.Signs.{side-residual}
 use Rattle.basis_model.specs.Basis.{coord, outside_row, side_at}
-use Rattle.exact_algebra.specs.Order.{cmp_ℚ}
-use Rattle.pivot_rule.specs.Steps.{is_towards}
-use Rattle.pivot_rule.proofs.Passing.{mover_some, mover_outside}
-use Rattle.pivot_rule.proofs.Sides.{side_outside}
+use Rattle.rational_laws.specs.Order.{cmp_ℚ}
+use Rattle.pivot_model.specs.Steps.{is_towards}
+use Rattle.pivot_model.proofs.Passing.{mover_some, mover_outside}
+use Rattle.pivot_model.proofs.Sides.{side_outside}
 use Rattle.whole_inverse.specs.Shares.{share}
 use Rattle.whole_inverse.proofs.Lists.{share_read}
 use Rattle.whole_inverse.proofs.Turned.{share-quotient}

@@ -2,15 +2,15 @@
 use Rattle.std.specs.Prelude.{◌≡◌, ℕ, ℤ, ◌≤◌, ◌+ℤ◌, ◌*ℤ◌, ◌≤ℤ◌, ◌<ℤ◌, unsigned_abs, [], ◌∷◌, pos}
 use Rattle.std.proofs.Common.{arith, refl, sym, ap, ap₂, subst, ◌∙◌}
 use Rattle.std.proofs.lemmas.Int.{ints}
-use Rattle.exact_algebra.specs.Integers.{mul_positive}
-use Rattle.exact_algebra.specs.Solver.{number, ◌⊞◌, ◌⊠◌, v0, v1, v2, v3, v4, v5, v6}
-use Rattle.exact_algebra.specs.Rational.{◌+ℚ◌, ◌*ℚ◌, inverse, whole, ◌≤ℚ◌}
-use Rattle.exact_algebra.proofs.RationalLaws.{whole-add, whole-mul, *ℚ-inverse, ring_ℚ, ring_by_ℚ, ≤ℚ_mul}
-use Rattle.exact_algebra.proofs.OrderLaws.{≤ℚ-from_mul}
-use Rattle.exact_algebra.proofs.Inverses.{inverse-mul}
-use Rattle.exact_algebra.proofs.WholeNumbers.{le_from_whole, whole-le}
-use Rattle.exact_algebra.proofs.Signs.{whole_nonzero}
-use Rattle.pivot_rule.specs.Duals.{◌<ℚ◌}
+use Rattle.rational_laws.specs.Integers.{mul_positive}
+use Rattle.rational_laws.specs.Solver.{number, ◌⊞◌, ◌⊠◌, v0, v1, v2, v3, v4, v5, v6}
+use Rattle.rational_laws.specs.Rational.{◌+ℚ◌, ◌*ℚ◌, inverse, whole, ◌≤ℚ◌}
+use Rattle.rational_laws.proofs.RationalLaws.{whole-add, whole-mul, *ℚ-inverse, ring_ℚ, ring_by_ℚ, ≤ℚ_mul}
+use Rattle.rational_laws.proofs.OrderLaws.{≤ℚ-from_mul}
+use Rattle.rational_laws.proofs.Inverses.{inverse-mul}
+use Rattle.rational_laws.proofs.WholeNumbers.{le_from_whole, whole-le}
+use Rattle.rational_laws.proofs.Signs.{whole_nonzero}
+use Rattle.pivot_model.specs.Duals.{◌<ℚ◌}
 use Rattle.whole_inverse.specs.Shares.{share}
 
 size_is : (z : ℤ) → pos 1 ≤ℤ z → pos (unsigned_abs z) ≡ z

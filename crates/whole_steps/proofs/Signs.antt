@@ -5,16 +5,16 @@ use Rattle.std.specs.declared.cmp.Ordering.{Ordering}
 use Rattle.std.specs.declared.cmp.Ordering.TheVariants.{Less, Equal, Greater}
 use Rattle.std.proofs.Common.{refl, sym, ap, ap₂, subst, ◌∙◌, arith}
 use Rattle.std.proofs.lemmas.Int.{ints}
-use Rattle.exact_algebra.specs.Solver.{number, negated, v0}
-use Rattle.exact_algebra.specs.Rational.{ℚ, neg_ℚ, whole, ◌≤ℚ◌}
-use Rattle.exact_algebra.proofs.RationalLaws.{ring_ℚ}
-use Rattle.exact_algebra.specs.Order.{cmp_ℚ}
-use Rattle.exact_algebra.proofs.OrderLaws.{by_cmp, cmp_ℚ-Less, cmp_ℚ-Equal, cmp_ℚ-Greater, cmp_ℚ-not_Less, cmp_ℚ-not_Greater, cmp_ℚ-quotient, ≤ℚ_neg}
+use Rattle.rational_laws.specs.Solver.{number, negated, v0}
+use Rattle.rational_laws.specs.Rational.{ℚ, neg_ℚ, whole, ◌≤ℚ◌}
+use Rattle.rational_laws.proofs.RationalLaws.{ring_ℚ}
+use Rattle.rational_laws.specs.Order.{cmp_ℚ}
+use Rattle.rational_laws.proofs.OrderLaws.{by_cmp, cmp_ℚ-Less, cmp_ℚ-Equal, cmp_ℚ-Greater, cmp_ℚ-not_Less, cmp_ℚ-not_Greater, cmp_ℚ-quotient, ≤ℚ_neg}
 use Rattle.loss_model.specs.declared.vertex.Side.{Side}
 use Rattle.loss_model.specs.Spill.{abs_ℚ}
 use Rattle.basis_model.specs.Perturbed.{turned, side_of}
 use Rattle.basis_model.proofs.Ratios.{turned-zero}
-use Rattle.pivot_rule.proofs.Entering.{abs_above, abs_below}
+use Rattle.pivot_model.proofs.Entering.{abs_above, abs_below}
 use Rattle.whole_inverse.specs.Shares.{share}
 use Rattle.whole_solution.proofs.Numbers.{share-neg, share_none, share_not_above, share_above, side_above, side_below}
 

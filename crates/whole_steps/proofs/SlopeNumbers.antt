@@ -1,16 +1,16 @@
 -- The slopes of a station at a quantile.
 use Rattle.std.specs.Prelude.{◌≡◌, ℕ, ℤ, ◌<◌, ◌≤◌, ◌+ℤ◌, ◌*ℤ◌, ◌≤ℤ◌, ◌<ℤ◌, unsigned_abs, pos}
 use Rattle.std.proofs.Common.{sym, ap, ap₂, subst, ◌∙◌, inl, inr}
-use Rattle.exact_algebra.specs.Fraction.{rational}
-use Rattle.exact_algebra.specs.Rational.{◌+ℚ◌, ◌*ℚ◌, ◌≤ℚ◌}
-use Rattle.exact_algebra.proofs.RationalLaws.{≤ℚ_refl}
-use Rattle.exact_algebra.proofs.OrderLaws.{le_from_not}
+use Rattle.rational_laws.specs.Fraction.{rational}
+use Rattle.rational_laws.specs.Rational.{◌+ℚ◌, ◌*ℚ◌, ◌≤ℚ◌}
+use Rattle.rational_laws.proofs.RationalLaws.{≤ℚ_refl}
+use Rattle.rational_laws.proofs.OrderLaws.{le_from_not}
 use Rattle.basis_model.specs.declared.part.Part.TheVariants.{Constant, Linear}
-use Rattle.pivot_rule.specs.declared.direction.Direction.{Direction}
-use Rattle.pivot_rule.specs.declared.direction.Direction.TheVariants.{Upward, Downward}
-use Rattle.pivot_rule.specs.Steps.{slope, HasNoNegativeSlope}
-use Rattle.walk_rule.specs.Families.{over_quantiles}
-use Rattle.walk_rule.proofs.Slopes.{affine, slope_is}
+use Rattle.pivot_model.specs.declared.direction.Direction.{Direction}
+use Rattle.pivot_model.specs.declared.direction.Direction.TheVariants.{Upward, Downward}
+use Rattle.pivot_model.specs.Steps.{slope, HasNoNegativeSlope}
+use Rattle.walk_model.specs.Families.{over_quantiles}
+use Rattle.walk_model.proofs.Slopes.{affine, slope_is}
 use Rattle.fraction_tableau.specs.Slopes.{IsSteeper, IsLesser, IsLeast}
 use Rattle.fraction_tableau.proofs.SlopeLaws.{leaves, none_negative}
 use Rattle.whole_inverse.specs.Shares.{share}

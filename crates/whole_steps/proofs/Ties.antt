@@ -5,11 +5,11 @@ use Rattle.std.specs.declared.cmp.Ordering.{Ordering}
 use Rattle.std.specs.declared.cmp.Ordering.TheVariants.{Less, Equal, Greater}
 use Rattle.std.proofs.Common.{arith, refl, sym, ap, ap₂, subst, ◌∙◌}
 use Rattle.std.proofs.lemmas.Int.{ints}
-use Rattle.exact_algebra.specs.Rational.{ℚ, ◌*ℚ◌, neg_ℚ, inverse, whole}
-use Rattle.exact_algebra.specs.Order.{cmp_ℚ}
-use Rattle.exact_algebra.specs.Solver.{negated, ◌⊠◌, v0, v1}
-use Rattle.exact_algebra.proofs.RationalLaws.{ring_ℚ, ≤ℚ_trans}
-use Rattle.exact_algebra.proofs.OrderLaws.{cmp_ℚ-Equal, cmp_ℚ-Less, cmp_ℚ-Greater}
+use Rattle.rational_laws.specs.Rational.{ℚ, ◌*ℚ◌, neg_ℚ, inverse, whole}
+use Rattle.rational_laws.specs.Order.{cmp_ℚ}
+use Rattle.rational_laws.specs.Solver.{negated, ◌⊠◌, v0, v1}
+use Rattle.rational_laws.proofs.RationalLaws.{ring_ℚ, ≤ℚ_trans}
+use Rattle.rational_laws.proofs.OrderLaws.{cmp_ℚ-Equal, cmp_ℚ-Less, cmp_ℚ-Greater}
 use Rattle.loss_model.specs.declared.vertex.Side.{Side}
 use Rattle.loss_model.specs.declared.vertex.Side.TheVariants.{Up, Down, Basic}
 use Rattle.loss_model.specs.Spill.{abs_ℚ}
@@ -17,16 +17,16 @@ use Rattle.basis_model.specs.Lexicographic.{lex_cmp}
 use Rattle.basis_model.proofs.LexicographicLaws.{lex_cmp-first, lex_cmp-Equal}
 use Rattle.basis_model.specs.Perturbed.{IsOutside, perturbed, perturbed_side, turned, zeros}
 use Rattle.basis_model.specs.Basis.{coord, outside_row}
-use Rattle.pivot_rule.proofs.Passing.{mover_some, is_outside}
+use Rattle.pivot_model.proofs.Passing.{mover_some, is_outside}
 use Rattle.lex_rule.proofs.Comparisons.{equal_from, side_cases, held_entry, agree_between, agree_more, less_from_first, left_decides, right_decides}
-use Rattle.exact_algebra.specs.WholeLists.{whole_at}
+use Rattle.rational_laws.specs.WholeLists.{whole_at}
 use Rattle.whole_inverse.specs.Shares.{share}
 use Rattle.whole_rows.specs.declared.rows.WholeRow.{WholeRow}
 use Rattle.whole_rows.specs.Wholes.{of_whole}
 use Rattle.whole_solution.proofs.Reading.{row_read}
-use Rattle.exact_matrices.specs.Matrices.{coordinate}
-use Rattle.exact_algebra.proofs.RationalSumLaws.{sum_ℚ-same}
-use Rattle.exact_algebra.proofs.Comparisons.{not_equal, differs}
+use Rattle.rational_laws.specs.Matrices.{coordinate}
+use Rattle.rational_laws.proofs.RationalSumLaws.{sum_ℚ-same}
+use Rattle.rational_laws.proofs.Comparisons.{not_equal, differs}
 use Rattle.whole_inverse.proofs.Turned.{share-quotient}
 use Rattle.whole_solution.proofs.Numbers.{share-neg}
 use Rattle.whole_steps.specs.declared.line.Line.{Line}

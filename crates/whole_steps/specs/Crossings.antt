@@ -1,12 +1,12 @@
 -- Inner. Crossings as quotients of whole numbers.
 use Rattle.std.specs.Prelude.{◌≡◌, ℕ, ◌≤◌, Option, Some, None, pos}
-use Rattle.exact_algebra.specs.Fraction.{Fraction, rational}
-use Rattle.exact_algebra.specs.Rational.{ℚ, whole}
+use Rattle.rational_laws.specs.Fraction.{Fraction, rational}
+use Rattle.rational_laws.specs.Rational.{ℚ, whole}
 use Rattle.basis_model.specs.declared.part.Part.TheVariants.{Linear}
-use Rattle.pivot_rule.specs.declared.direction.Direction.{Direction}
-use Rattle.pivot_rule.specs.Duals.{◌<ℚ◌}
-use Rattle.walk_rule.specs.Families.{over_quantiles}
-use Rattle.walk_rule.specs.SlopeLaws.{quotient_of}
+use Rattle.pivot_model.specs.declared.direction.Direction.{Direction}
+use Rattle.pivot_model.specs.Duals.{◌<ℚ◌}
+use Rattle.walk_model.specs.Families.{over_quantiles}
+use Rattle.walk_model.specs.SlopeLaws.{quotient_of}
 use Rattle.fraction_tableau.specs.declared.crossings.Breakpoint.{Breakpoint}
 use Rattle.whole_steps.specs.declared.station.Station.{Station}
 use Rattle.whole_steps.specs.declared.crossings.Quotient.{Quotient}

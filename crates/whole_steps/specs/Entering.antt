@@ -2,7 +2,7 @@
 use Rattle.std.specs.Prelude.{◌≡◌, ℕ, ◌<◌, length}
 use Rattle.loss_model.specs.Sample.{residual}
 use Rattle.basis_model.specs.Basis.{coord, coefficient}
-use Rattle.pivot_rule.specs.declared.direction.Direction.{Direction}
+use Rattle.pivot_model.specs.declared.direction.Direction.{Direction}
 use Rattle.whole_inverse.specs.Shares.{share_at}
 use Rattle.whole_steps.specs.declared.line.Line.{Line}
 use Rattle.whole_steps.specs.Lines.{IsLine}

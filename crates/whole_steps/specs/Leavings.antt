@@ -1,8 +1,8 @@
 -- Inner. The slopes of a station at a quantile, as numbers over a scale, and the step there.
 use Rattle.std.specs.Prelude.{◌≡◌, ℕ, ℤ, ◌*ℤ◌, unsigned_abs, Option, Some, None}
-use Rattle.exact_algebra.specs.Fraction.{rational}
-use Rattle.pivot_rule.specs.declared.direction.Direction.{Direction}
-use Rattle.pivot_rule.specs.Steps.{slope, HasNoNegativeSlope, IsLeaving, IsEntering, IsSolvingStep}
+use Rattle.rational_laws.specs.Fraction.{rational}
+use Rattle.pivot_model.specs.declared.direction.Direction.{Direction}
+use Rattle.pivot_model.specs.Steps.{slope, HasNoNegativeSlope, IsLeaving, IsEntering, IsSolvingStep}
 use Rattle.tableau_model.specs.declared.answer.Step.{Step}
 use Rattle.fraction_tableau.specs.declared.slopes.Leaving.{Leaving as Slope}
 use Rattle.fraction_tableau.specs.Slopes.{IsLesser}

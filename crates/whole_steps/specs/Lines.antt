@@ -1,14 +1,14 @@
 -- Inner. The line along which a position leaves a basis of rows in whole numbers, and the rows that move on it.
 use Rattle.std.specs.Prelude.{◌≡◌, ◌≢◌, ◌⊎◌, ℕ, ℤ, ◌<◌, ◌≤◌, Bool, true, false, length, slice_get, slice_index}
 use Rattle.std.specs.Prelude.{Option, Some, None, pos}
-use Rattle.exact_algebra.specs.Rational.{ℚ, neg_ℚ}
+use Rattle.rational_laws.specs.Rational.{ℚ, neg_ℚ}
 use Rattle.loss_model.specs.Sample.{Sample, residual}
 use Rattle.loss_model.specs.Spill.{abs_ℚ}
 use Rattle.basis_model.specs.Perturbed.{ratio}
 use Rattle.basis_model.specs.Basis.{IsBasis, coord, coefficient, outside_row, side_at}
-use Rattle.pivot_rule.specs.declared.direction.Direction.{Direction}
-use Rattle.pivot_rule.specs.declared.direction.Direction.TheVariants.{Upward, Downward}
-use Rattle.pivot_rule.specs.Steps.{moves, is_before}
+use Rattle.pivot_model.specs.declared.direction.Direction.{Direction}
+use Rattle.pivot_model.specs.declared.direction.Direction.TheVariants.{Upward, Downward}
+use Rattle.pivot_model.specs.Steps.{moves, is_before}
 use Rattle.whole_inverse.specs.Shares.{share, share_at}
 use Rattle.whole_inverse.specs.Squares.{inverse_of}
 use Rattle.whole_rows.specs.Wholes.{sample_of_rows}

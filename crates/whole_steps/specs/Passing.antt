@@ -1,8 +1,8 @@
 -- Inner. What rows that are passed add to the slope of a line, and the row that enters.
 use Rattle.std.specs.Prelude.{ℕ, ℤ, ◌*ℤ◌, ◌&&◌, if◌then◌else◌, unsigned_abs, pos}
-use Rattle.exact_algebra.specs.Fraction.{Fraction}
-use Rattle.exact_algebra.specs.Rational.{ℚ, whole}
-use Rattle.pivot_rule.specs.Steps.{slope, passing, slope_before, IsEntering}
+use Rattle.rational_laws.specs.Fraction.{Fraction}
+use Rattle.rational_laws.specs.Rational.{ℚ, whole}
+use Rattle.pivot_model.specs.Steps.{slope, passing, slope_before, IsEntering}
 use Rattle.whole_steps.specs.declared.line.Line.{Line}
 use Rattle.whole_steps.specs.Lines.{model, at_of, inverse_at, over_of, IsFullLine, is_moving, comes_before}
 use Rattle.whole_steps.specs.declared.passing.Descent.{Descent}

@@ -1,7 +1,7 @@
 -- Inner. A quantile as a quotient, and numbers over a scale.
 use Rattle.std.specs.Prelude.{ℕ, ℤ, ◌≤ℤ◌, pos}
-use Rattle.exact_algebra.specs.Fraction.{Fraction}
-use Rattle.exact_algebra.specs.Rational.{ℚ}
+use Rattle.rational_laws.specs.Fraction.{Fraction}
+use Rattle.rational_laws.specs.Rational.{ℚ}
 use Rattle.whole_inverse.specs.Shares.{share}
 use Rattle.whole_steps.specs.declared.quantile.Quantile.{Quantile}
 

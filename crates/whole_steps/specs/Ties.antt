@@ -1,6 +1,6 @@
 -- Inner. Two perturbed ratios whose first entries agree, entry by entry.
 use Rattle.std.specs.Prelude.{◌≡◌, ℕ, suc, ◌<◌, ◌≤◌, true, length, Option, Some, None, pos}
-use Rattle.exact_algebra.specs.Rational.{ℚ, neg_ℚ}
+use Rattle.rational_laws.specs.Rational.{ℚ, neg_ℚ}
 use Rattle.loss_model.specs.declared.vertex.Side.{Side}
 use Rattle.loss_model.specs.declared.vertex.Side.TheVariants.{Up, Down, Basic}
 use Rattle.loss_model.specs.Spill.{abs_ℚ}

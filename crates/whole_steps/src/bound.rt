@@ -1,6 +1,6 @@
 //! Products of three numbers by their leading bits, and the most that a coordinate can be.
 ghost use Rattle.std.specs.Prelude.{◌≡◌, ◌*◌, ◌^◌, ◌<◌, ◌≤◌, length, get_or, IfSome, IsTrue, pos};
-ghost use Rattle.exact_algebra.specs.Rational.{whole};
+ghost use Rattle.rational_laws.specs.Rational.{whole};
 ghost use Rattle.wide_int.specs.Numbers.{joined};
 ghost use Rattle.whole_solution.specs.Ranges.{most_of_products};
 ghost use Rattle.whole_steps.specs.Bounds.{IsReduced};

@@ -1,8 +1,8 @@
 //! The next breakpoint of a walk: where a dual value of the basis first passes beyond a bound.
 ghost use Rattle.std.specs.Prelude.{◌≡◌, ◌<◌, ◌≤◌, length, IfOk, pos};
 ghost use Rattle.std.specs.Ordering.{is_lt};
-ghost use Rattle.exact_algebra.specs.Fraction.{rational};
-ghost use Rattle.exact_algebra.specs.Order.{cmp_ℚ};
+ghost use Rattle.rational_laws.specs.Fraction.{rational};
+ghost use Rattle.rational_laws.specs.Order.{cmp_ℚ};
 ghost use Rattle.fraction_tableau.specs.Crossings.{IsSooner, IsCrossingAt, IsFirstOf};
 ghost use Rattle.whole_steps.specs.Stations.{IsStation};
 ghost use Rattle.whole_steps.specs.Crossings.{quotient_value, HasDivisor, falls_at, quotient_at, IsCrossingTowards};
@@ -11,7 +11,7 @@ use crate::station::Station;
 use basis_model::Part;
 use frac_core::Exact;
 use fraction_tableau::Breakpoint;
-use pivot_rule::Direction;
+use pivot_model::Direction;
 use whole_inverse::Obstacle;
 use whole_rows::value_over;
 use wide_int::Natural;

@@ -2,8 +2,8 @@
 //!
 //! Rows near the fit are asked first: where one of them surely comes before every row that isn't near, no other row is looked at.
 ghost use Rattle.std.specs.Prelude.{◌≡◌, ℕ, ◌<◌, length, true, IfOk, IfSome};
-ghost use Rattle.pivot_rule.specs.Steps.{moves};
-ghost use Rattle.walk_rule.specs.Walks.{IsFirstMover};
+ghost use Rattle.pivot_model.specs.Steps.{moves};
+ghost use Rattle.walk_model.specs.Walks.{IsFirstMover};
 ghost use Rattle.whole_steps.specs.Lines.{IsFullLine};
 ghost use Rattle.whole_steps.specs.Stations.{IsStation, model, at_of, inverse_at};
 ghost use Rattle.whole_steps.specs.Entering.{IsLineOf, AreRowNumbers};
@@ -13,7 +13,7 @@ use crate::line::Line;
 use crate::near_line::NearLine;
 use crate::station::Station;
 use frac_core::List;
-use pivot_rule::Direction;
+use pivot_model::Direction;
 use std::alloc::Global;
 use whole_inverse::Obstacle;
 use whole_solution::row_products;

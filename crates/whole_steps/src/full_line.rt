@@ -1,6 +1,6 @@
 //! A line with the numbers of all rows, and the first of the rows that move on it.
 ghost use Rattle.std.specs.Prelude.{◌≡◌, ℕ, ◌+◌, ◌<◌, ◌≤◌, length, true, IfOk, IsTrue};
-ghost use Rattle.walk_rule.specs.Walks.{IsFirstMover};
+ghost use Rattle.walk_model.specs.Walks.{IsFirstMover};
 ghost use Rattle.whole_steps.specs.Lines.{IsFullLine, IsMover, IsMoverAt, IsFirstBelow, model, at_of, inverse_at, is_moving, comes_before};
 
 use crate::less::is_surely_less;

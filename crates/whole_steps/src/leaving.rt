@@ -8,7 +8,7 @@ ghost use Rattle.whole_steps.specs.Leavings.{leaving_of, number_at, IsLesserAt, 
 use crate::quantile::Quantile;
 use crate::station::Station;
 use basis_model::Part;
-use pivot_rule::Direction;
+use pivot_model::Direction;
 use whole_inverse::Obstacle;
 
 /// A slope of the loss at a quantile, of a position in a direction: times the determinant and the quantile's second part.

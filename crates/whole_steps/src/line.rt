@@ -1,15 +1,15 @@
 //! The line along which a position leaves, and the rows that move on it.
 ghost use Rattle.std.specs.Prelude.{◌≡◌, ℤ, ◌≤ℤ◌, IfOk, IfSome, pos};
 ghost use Rattle.std.specs.Ordering.{is_lt, is_gt};
-ghost use Rattle.exact_algebra.specs.Rational.{whole};
-ghost use Rattle.exact_algebra.specs.Order.{cmp_ℚ};
-ghost use Rattle.pivot_rule.specs.Steps.{is_towards};
+ghost use Rattle.rational_laws.specs.Rational.{whole};
+ghost use Rattle.rational_laws.specs.Order.{cmp_ℚ};
+ghost use Rattle.pivot_model.specs.Steps.{is_towards};
 ghost use Rattle.whole_inverse.specs.Shares.{share};
 ghost use Rattle.whole_steps.specs.Lines.{IsLine, IsMover, IsEarlierMover, IsJoined, turned_by};
 
 use crate::less::is_surely_less;
 use loss_model::Side;
-use pivot_rule::Direction;
+use pivot_model::Direction;
 use whole_inverse::Obstacle;
 use whole_solution::WholeBasis;
 

@@ -4,7 +4,7 @@
 //! greater than that of the first near row that moves, this is the first of all.
 ghost use Rattle.std.specs.Prelude.{◌≡◌, ℕ, ◌+◌, ◌<◌, ◌≤◌, length, slice_index, true, IfOk, IfSome, IsTrue, pos};
 ghost use Rattle.basis_model.specs.Basis.{coord};
-ghost use Rattle.walk_rule.specs.Walks.{IsFirstMover};
+ghost use Rattle.walk_model.specs.Walks.{IsFirstMover};
 ghost use Rattle.whole_inverse.specs.Shares.{share};
 ghost use Rattle.whole_steps.specs.Lines.{IsNearLine, IsLook, IsMover, IsMoverAt, IsFirstOf, AreFarAfter, model, at_of, inverse_at, over_of, residual_of, is_moving, comes_before};
 

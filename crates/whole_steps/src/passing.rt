@@ -1,7 +1,7 @@
 //! What rows that are passed add to a slope, and the test of the row that enters.
 ghost use Rattle.std.specs.Prelude.{◌≡◌, ℕ, ℤ, ◌<◌, ◌+ℤ◌, ◌*ℤ◌, length, pos, unsigned_abs, ◌&&◌, IfOk, IfSome, IsTrue};
-ghost use Rattle.exact_algebra.specs.Fraction.{rational};
-ghost use Rattle.exact_algebra.specs.Rational.{◌+ℚ◌};
+ghost use Rattle.rational_laws.specs.Fraction.{rational};
+ghost use Rattle.rational_laws.specs.Rational.{◌+ℚ◌};
 ghost use Rattle.whole_steps.specs.Lines.{IsMover, is_moving, comes_before};
 ghost use Rattle.whole_steps.specs.Rivals.{AreMarked, IsRivals};
 ghost use Rattle.whole_steps.specs.Passing.{IsDescent, number_value, first_slope, passing_of, passed_by, slope_until, Enters};

@@ -1,6 +1,6 @@
 //! Numbers that are affine in the quantile, at one quantile.
 ghost use Rattle.std.specs.Prelude.{◌≡◌, ℤ, ◌+ℤ◌, ◌*ℤ◌, IfOk};
-ghost use Rattle.exact_algebra.specs.Fraction.{rational};
+ghost use Rattle.rational_laws.specs.Fraction.{rational};
 ghost use Rattle.whole_steps.specs.Quantiles.{IsQuantile, theta_of};
 
 use frac_core::Exact;

@@ -6,7 +6,7 @@ ghost use Rattle.whole_steps.specs.Stations.{IsStation, over_of, slope_at};
 
 use crate::station::Station;
 use basis_model::Part;
-use pivot_rule::Direction;
+use pivot_model::Direction;
 use whole_inverse::Obstacle;
 use whole_solution::{negation, residual_of};
 

@@ -1,12 +1,12 @@
 //! A basis of rows in whole numbers, with what stands there.
 ghost use Rattle.std.specs.Prelude.{◌≡◌, ◌<◌, length, pos};
-ghost use Rattle.exact_algebra.specs.Rational.{whole};
+ghost use Rattle.rational_laws.specs.Rational.{whole};
 ghost use Rattle.basis_model.specs.Basis.{basic_dual};
 ghost use Rattle.whole_inverse.specs.Shares.{share};
 ghost use Rattle.whole_steps.specs.Stations.{IsStation, model, at_of, inverse_at, over_of, cost_of, cost_part};
 
 use basis_model::Part;
-use pivot_rule::Direction;
+use pivot_model::Direction;
 use whole_rows::WholeRow;
 use whole_solution::{WholeBasis, WholeSolution};
 

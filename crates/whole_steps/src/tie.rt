@@ -5,7 +5,7 @@
 ghost use Rattle.std.specs.Prelude.{◌≡◌, ◌≢◌, ◌↔◌, ℤ, suc, ◌*◌, ◌<◌, ◌≤◌, length, slice_index, IfOk, IsTrue, pos};
 ghost use Rattle.std.specs.Ordering.{nat_cmp};
 ghost use Rattle.std.specs.declared.cmp.Ordering.TheVariants.{Equal};
-ghost use Rattle.exact_algebra.specs.Order.{cmp_ℚ};
+ghost use Rattle.rational_laws.specs.Order.{cmp_ℚ};
 ghost use Rattle.loss_model.specs.declared.vertex.Side.TheVariants.{Down};
 ghost use Rattle.basis_model.specs.Lexicographic.{lex_cmp};
 ghost use Rattle.whole_inverse.specs.Shares.{share};

@@ -1,16 +1,16 @@
 -- Past the step of a walk all rows keep their sides but for both of the step.
 use Rattle.std.specs.Prelude.{ℕ, ◌<◌, List, slice_index, Option, Some, None, IfSome}
 use Rattle.std.proofs.Common.{sym, ap, subst, ◌∙◌}
-use Rattle.exact_algebra.specs.Fraction.{Fraction}
-use Rattle.exact_algebra.specs.Rational.{ℚ}
+use Rattle.rational_laws.specs.Fraction.{Fraction}
+use Rattle.rational_laws.specs.Rational.{ℚ}
 use Rattle.loss_model.specs.Problem.{sample}
 use Rattle.loss_model.specs.Sample.{Sample}
 use Rattle.basis_model.specs.Basis.{IsBasis}
-use Rattle.pivot_rule.proofs.Among.{among_at}
-use Rattle.walk_rule.specs.Walks.{IsFirstMover, AreExchanged}
-use Rattle.walk_rule.proofs.Joint.{sides_stay}
-use Rattle.walk_rule.proofs.Trails.{list_exchanged}
-use Rattle.scaled_model.proofs.StepLaws.{first_mover_there}
+use Rattle.pivot_model.proofs.Among.{among_at}
+use Rattle.walk_model.specs.Walks.{IsFirstMover, AreExchanged}
+use Rattle.walk_model.proofs.Joint.{sides_stay}
+use Rattle.walk_model.proofs.Trails.{list_exchanged}
+use Rattle.whole_rows.proofs.StepLaws.{first_mover_there}
 use Rattle.whole_inverse.specs.Squares.{inverse_of}
 use Rattle.whole_rows.specs.Wholes.{factor_at, factor_value}
 use Rattle.whole_rows.proofs.Inverses.{basis_from}

@@ -1,4 +1,4 @@
-//! Rank intervals as `rank_law` defines them, by plain enumeration in whole numbers: intervals that were worked by hand, and intervals of
+//! Rank intervals as `rank_model` defines them, by plain enumeration in whole numbers: intervals that were worked by hand, and intervals of
 //! drawn tables found in two ways.
 //!
 //! No code of an interval is called. Whether a tested value holds is found from all vertices of the dual

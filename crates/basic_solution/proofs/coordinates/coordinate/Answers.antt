@@ -1,6 +1,6 @@
 use Rattle.std.proofs.Common.{◌≡◌, length, get_or, IfOk, IfErr, arith, ap, sym, ◌∙◌}
-use Rattle.exact_algebra.specs.Fraction.{rational}
-use Rattle.exact_matrices.specs.Matrices.{coordinate}
+use Rattle.rational_laws.specs.Fraction.{rational}
+use Rattle.rational_laws.specs.Matrices.{coordinate}
 use Rattle.loss_model.specs.Quantities.{IsCoordinateSpill}
 use Rattle.basis_inverse.specs.Square.{inverse_entry}
 use Rattle.basic_solution.proofs.Rows.{row_wide, at_entries}

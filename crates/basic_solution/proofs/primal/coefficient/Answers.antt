@@ -1,5 +1,5 @@
 use Rattle.std.proofs.Common.{◌≡◌, ◌<◌, length, slice_index, get_or, arith, refl, sym, ap, zero-add}
-use Rattle.exact_algebra.specs.Fraction.{rational}
+use Rattle.rational_laws.specs.Fraction.{rational}
 use Rattle.loss_model.specs.declared.spill.Quantity.TheVariants.{Coefficient}
 use Rattle.loss_model.specs.Problem.{sample}
 use Rattle.loss_model.specs.Spill.{site_of}

@@ -1,7 +1,7 @@
 use Rattle.std.proofs.Common.{◌≡◌, slice_index, pos, sym, ap₂, refl, ◌∙◌}
 use Rattle.std.specs.declared.cmp.Ordering.TheVariants.{Less, Greater}
-use Rattle.exact_algebra.specs.Rational.{whole}
-use Rattle.exact_algebra.specs.Order.{cmp_ℚ}
+use Rattle.rational_laws.specs.Rational.{whole}
+use Rattle.rational_laws.specs.Order.{cmp_ℚ}
 use Rattle.loss_model.specs.Problem.{sample}
 use Rattle.basis_inverse.specs.Square.{inverse_entry}
 use Rattle.basis_model.specs.Perturbed.{nonbasic}

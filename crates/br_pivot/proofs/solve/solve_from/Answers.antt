@@ -1,5 +1,5 @@
 use Rattle.std.proofs.Common.{sym, ◌∙◌}
-use Rattle.exact_algebra.specs.Fraction.{rational}
+use Rattle.rational_laws.specs.Fraction.{rational}
 use Rattle.tableau.specs.Bodies.{place_of}
 use Rattle.br_pivot.proofs.Limits.{optimum_answers}
 use Rattle.br_pivot.proofs.Halts.{halt_answers}

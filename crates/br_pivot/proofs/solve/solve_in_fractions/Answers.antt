@@ -1,6 +1,6 @@
 use Rattle.std.proofs.Common.{sym, subst}
 use Rattle.std.proofs.lemmas.Result.{err_from_is_err_and}
-use Rattle.exact_algebra.specs.Fraction.{rational}
+use Rattle.rational_laws.specs.Fraction.{rational}
 use Rattle.br_pivot.specs.Answers.{IsAnswer}
 use Rattle.br_pivot.proofs.Limits.{start_answers}
 use Rattle.br_pivot.proofs.solve.solve_in_fractions.Goals as goal

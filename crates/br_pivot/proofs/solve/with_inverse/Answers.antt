@@ -1,5 +1,5 @@
 use Rattle.std.proofs.Common.{refl}
-use Rattle.exact_algebra.specs.Fraction.{rational}
+use Rattle.rational_laws.specs.Fraction.{rational}
 use Rattle.tableau_model.specs.Questions.{solving}
 use Rattle.tableau.specs.Bodies.{place_of}
 use Rattle.tableau.proofs.Halts.{refusal_kept, refusal_halts}

@@ -1,6 +1,6 @@
 -- The residuals lie on their sides at both ends, where the dual values come to what is stated.
 use Rattle.std.proofs.Common.{sym, ◌∙◌}
-use Rattle.exact_algebra.specs.Fraction.{rational}
+use Rattle.rational_laws.specs.Fraction.{rational}
 use Rattle.frac_core.specs.Values.{value as value128}
 use Rattle.loss_model.specs.Problem.{sample, value_at}
 use Rattle.loss_model.specs.Vertex.{basic_value}

@@ -1,8 +1,8 @@
 -- The number over a factor above 0.
 use Rattle.std.proofs.Common.{◌<ℤ◌, pos, arith, ap, ◌∙◌}
 use Rattle.std.proofs.lemmas.Int.{ints}
-use Rattle.exact_algebra.specs.Fraction.{rational}
-use Rattle.exact_algebra.specs.Order.{cmp_ℚ}
+use Rattle.rational_laws.specs.Fraction.{rational}
+use Rattle.rational_laws.specs.Order.{cmp_ℚ}
 use Rattle.frac_core.specs.Values.{value as value128}
 use Rattle.cert_sums.proofs.Orders.{above_zero, not_zero, over_compares}
 use Rattle.cert_sums.proofs.fractions.against_product.Goals as goal

@@ -1,10 +1,10 @@
 -- A factor that is taken from 0 is negated.
 use Rattle.std.specs.Prelude.{[], ◌∷◌, pos, if◌then◌else◌}
 use Rattle.std.proofs.Common.{refl, sym, ap, ◌∙◌}
-use Rattle.exact_algebra.specs.Fraction.{rational}
-use Rattle.exact_algebra.specs.Rational.{◌-ℚ◌, whole}
-use Rattle.exact_algebra.specs.Solver.{number, negated, ◌⊟◌, v0}
-use Rattle.exact_algebra.proofs.RationalLaws.{ring_ℚ}
+use Rattle.rational_laws.specs.Fraction.{rational}
+use Rattle.rational_laws.specs.Rational.{◌-ℚ◌, whole}
+use Rattle.rational_laws.specs.Solver.{number, negated, ◌⊟◌, v0}
+use Rattle.rational_laws.proofs.RationalLaws.{ring_ℚ}
 use Rattle.frac_core.specs.Values.{value as value128}
 use Rattle.cert_sums.proofs.projection.left_factor.Goals as goal
 

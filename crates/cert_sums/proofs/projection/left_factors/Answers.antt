@@ -3,14 +3,14 @@ use Rattle.std.proofs.Common.{rules, ◌≡◌, ℕ, ◌++◌, ◌∷◌, [], le
 use Rattle.std.specs.Prelude.{slice_get, Option, Some}
 use Rattle.std.specs.Option.{option_map_or}
 use Rattle.std.proofs.lemmas.Option.{slice_get_read}
-use Rattle.exact_algebra.specs.Fraction.{rational}
-use Rattle.exact_algebra.specs.Rational.{ℚ, ◌-ℚ◌, ◌*ℚ◌, whole}
-use Rattle.exact_algebra.proofs.Lists.{length_pushed}
-use Rattle.exact_matrices.specs.Terms.{delta}
+use Rattle.rational_laws.specs.Fraction.{rational}
+use Rattle.rational_laws.specs.Rational.{ℚ, ◌-ℚ◌, ◌*ℚ◌, whole}
+use Rattle.rational_laws.proofs.Lists.{length_pushed}
+use Rattle.rational_laws.specs.Terms.{delta}
 use Rattle.frac_core.specs.declared.frac128.Frac128.{Frac128}
 use Rattle.frac_core.specs.Values.{value as value128}
 use Rattle.loss_model.specs.Problem.{value_at}
-use Rattle.exact_algebra.proofs.WholeLists.{whole_pushed}
+use Rattle.rational_laws.proofs.WholeLists.{whole_pushed}
 use Rattle.cert_sums.proofs.projection.left_factors.Goals as goal
 
 pub loop-k-preserved : goal.loop-k-preserved

@@ -1,9 +1,9 @@
 use Rattle.std.proofs.Common.{◌≡◌, ℕ, ◌<◌, length, pos}
-use Rattle.exact_algebra.specs.Rational.{◌-ℚ◌, ◌*ℚ◌, whole}
-use Rattle.exact_matrices.specs.Terms.{delta}
+use Rattle.rational_laws.specs.Rational.{◌-ℚ◌, ◌*ℚ◌, whole}
+use Rattle.rational_laws.specs.Terms.{delta}
 use Rattle.frac_core.specs.Values.{value as value128}
 use Rattle.loss_model.specs.Problem.{value_at}
-use Rattle.exact_algebra.specs.WholeLists.{whole_at}
+use Rattle.rational_laws.specs.WholeLists.{whole_at}
 use Rattle.cert_sums.proofs.projection.left_factors.Given as goal
 
 abbrev pub invariant-loop-k : goal.invariant-loop-k

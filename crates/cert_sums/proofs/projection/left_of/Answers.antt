@@ -1,9 +1,9 @@
 -- What is left in whole numbers.
 use Rattle.std.proofs.Common.{rules, ◌≡◌, ◌<◌, ◌*◌, ap, subst, length, arith}
-use Rattle.exact_algebra.specs.Rational.{◌*ℚ◌}
+use Rattle.rational_laws.specs.Rational.{◌*ℚ◌}
 use Rattle.frac_core.specs.Values.{value as value128}
 use Rattle.loss_model.specs.Problem.{sample, value_at}
-use Rattle.rank_law.specs.Restricted.{projected}
+use Rattle.rank_model.specs.Restricted.{projected}
 use Rattle.cert_sums.specs.declared.duals.Duals.{Duals}
 use Rattle.cert_sums.specs.Duals.{IsDuals}
 use Rattle.cert_sums.proofs.Balanced.{wide_rows}

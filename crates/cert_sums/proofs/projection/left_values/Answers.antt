@@ -3,12 +3,12 @@ use Rattle.std.proofs.Common.{rules, ◌≡◌, ◌++◌, ◌∷◌, [], length,
 use Rattle.std.specs.Prelude.{slice_get, Some, Option, ◌*ℤ◌}
 use Rattle.std.specs.Option.{option_map_or}
 use Rattle.std.proofs.lemmas.Option.{slice_get_read}
-use Rattle.exact_algebra.specs.Rational.{whole}
-use Rattle.exact_algebra.proofs.Lists.{length_pushed}
+use Rattle.rational_laws.specs.Rational.{whole}
+use Rattle.rational_laws.proofs.Lists.{length_pushed}
 use Rattle.wide_int.specs.Numbers.{total}
 use Rattle.cert_sums.specs.Ranks.{left_at}
 use Rattle.cert_sums.specs.declared.table.WholeRow.{WholeRow}
-use Rattle.exact_algebra.proofs.WholeLists.{whole_pushed}
+use Rattle.rational_laws.proofs.WholeLists.{whole_pushed}
 use Rattle.cert_sums.proofs.projection.left_values.Goals as goal
 
 pub loop-i-preserved : goal.loop-i-preserved

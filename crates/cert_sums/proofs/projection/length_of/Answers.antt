@@ -1,11 +1,11 @@
 -- The sum over the column, where the other ones have none.
 use Rattle.std.proofs.Common.{◌≡◌, ◌<◌, pos, arith, sym, ap, ◌∙◌}
-use Rattle.exact_algebra.specs.Rational.{ℚ, ◌*ℚ◌, whole}
+use Rattle.rational_laws.specs.Rational.{ℚ, ◌*ℚ◌, whole}
 use Rattle.frac_core.specs.declared.frac128.Frac128.{Frac128}
 use Rattle.std.specs.Prelude.{ℕ, List}
 use Rattle.frac_core.specs.Values.{value as value128}
 use Rattle.loss_model.specs.Problem.{sample, value_at}
-use Rattle.rank_law.specs.Restricted.{projected}
+use Rattle.rank_model.specs.Restricted.{projected}
 use Rattle.cert_sums.proofs.Squares.{projection, one_sum}
 use Rattle.cert_sums.proofs.projection.length_of.Goals as goal
 

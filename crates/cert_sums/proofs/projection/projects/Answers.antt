@@ -1,7 +1,7 @@
 -- Its sign.
 use Rattle.std.proofs.Common.{◌<ℤ◌, pos, arith, subst}
 use Rattle.std.proofs.lemmas.Int.{ints}
-use Rattle.exact_algebra.specs.Fraction.{rational}
+use Rattle.rational_laws.specs.Fraction.{rational}
 use Rattle.frac_core.specs.Values.{value as value128}
 use Rattle.cert_sums.specs.Ranks.{IsPositive}
 use Rattle.cert_sums.proofs.Orders.{above_zero}

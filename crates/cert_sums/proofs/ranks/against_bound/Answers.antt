@@ -1,10 +1,10 @@
 -- The order is that of the statistic and the length.
 use Rattle.std.proofs.Common.{ap₂, ◌∙◌}
-use Rattle.exact_algebra.specs.Fraction.{rational}
-use Rattle.exact_algebra.specs.Order.{cmp_ℚ}
-use Rattle.exact_algebra.specs.Rational.{◌*ℚ◌}
+use Rattle.rational_laws.specs.Fraction.{rational}
+use Rattle.rational_laws.specs.Order.{cmp_ℚ}
+use Rattle.rational_laws.specs.Rational.{◌*ℚ◌}
 use Rattle.frac_core.specs.Values.{value as value128}
-use Rattle.rank_law.specs.Restricted.{rank_bound}
+use Rattle.rank_model.specs.Restricted.{rank_bound}
 use Rattle.cert_sums.proofs.ranks.against_bound.Goals as goal
 
 pub returns : goal.returns

@@ -1,5 +1,5 @@
 use Rattle.std.proofs.Common.{ℕ, ◌<◌}
-use Rattle.exact_algebra.specs.Fraction.{rational}
+use Rattle.rational_laws.specs.Fraction.{rational}
 use Rattle.frac_core.specs.Values.{value as value128}
 use Rattle.loss_model.specs.Problem.{sample}
 use Rattle.loss_model.specs.Vertex.{basic_value}

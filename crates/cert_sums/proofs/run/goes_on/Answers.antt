@@ -1,7 +1,7 @@
 -- One quantile, and each row whose side does not settle it has one dual value.
 use Rattle.std.proofs.Common.{◌≡◌, length, ap, subst, ◌∙◌}
 use Rattle.std.specs.List.{All}
-use Rattle.exact_algebra.specs.Fraction.{rational}
+use Rattle.rational_laws.specs.Fraction.{rational}
 use Rattle.frac_core.specs.Values.{value as value128}
 use Rattle.cert_sums.specs.Ends.{low_dual, high_dual}
 use Rattle.cert_sums.specs.Slopes.{unsettled_rows}

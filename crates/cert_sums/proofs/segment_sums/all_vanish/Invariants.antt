@@ -1,5 +1,5 @@
 use Rattle.std.proofs.Common.{◌≡◌, ℕ, ◌<◌, pos}
-use Rattle.exact_algebra.specs.Rational.{whole}
+use Rattle.rational_laws.specs.Rational.{whole}
 use Rattle.cert_sums.specs.Slopes.{sum_at}
 use Rattle.cert_sums.proofs.segment_sums.all_vanish.Given as goal
 

@@ -1,9 +1,9 @@
 -- A value more.
 use Rattle.std.proofs.Common.{rules, ◌≡◌, ℕ, ◌++◌, ◌∷◌, [], get_or}
-use Rattle.exact_algebra.specs.Rational.{whole}
-use Rattle.exact_algebra.proofs.Lists.{length_pushed}
+use Rattle.rational_laws.specs.Rational.{whole}
+use Rattle.rational_laws.proofs.Lists.{length_pushed}
 use Rattle.cert_sums.specs.Slopes.{basic_at}
-use Rattle.exact_algebra.proofs.WholeLists.{whole_pushed}
+use Rattle.rational_laws.proofs.WholeLists.{whole_pushed}
 use Rattle.cert_sums.proofs.segment_sums.basic_values.Goals as goal
 
 pub loop-j-preserved : goal.loop-j-preserved

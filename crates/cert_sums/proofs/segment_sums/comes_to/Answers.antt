@@ -1,6 +1,6 @@
 -- Both are equal.
 use Rattle.std.proofs.Common.{◌∙◌}
-use Rattle.exact_algebra.specs.Fraction.{rational}
+use Rattle.rational_laws.specs.Fraction.{rational}
 use Rattle.frac_core.specs.Values.{value as value128}
 use Rattle.cert_sums.proofs.Scales.{same_from_test}
 use Rattle.cert_sums.proofs.segment_sums.comes_to.Goals as goal

@@ -3,8 +3,8 @@ use Rattle.std.proofs.Common.{rules, ◌≡◌, ◌<◌, length, pos, refl, to_z
 use Rattle.std.specs.Prelude.{slice_get, Some}
 use mir.Syntax.{w128}
 use Rattle.std.proofs.lemmas.Option.{slice_get_read}
-use Rattle.exact_algebra.specs.Fraction.{rational}
-use Rattle.exact_algebra.specs.Rational.{◌*ℚ◌, whole}
+use Rattle.rational_laws.specs.Fraction.{rational}
+use Rattle.rational_laws.specs.Rational.{◌*ℚ◌, whole}
 use Rattle.frac_core.specs.Values.{value as value128}
 use Rattle.loss_model.specs.Vertex.{basic_value}
 use Rattle.cert_sums.specs.Duals.{side_in, IsRowDual}

@@ -1,5 +1,5 @@
 -- Sums that are 0, and one that comes to what is stated.
-use Rattle.exact_algebra.specs.Fraction.{rational}
+use Rattle.rational_laws.specs.Fraction.{rational}
 use Rattle.frac_core.specs.Values.{value as value128}
 use Rattle.cert_sums.proofs.SlopeSums.{summed}
 use Rattle.cert_sums.proofs.segment_sums.is_summed.Goals as goal

@@ -1,7 +1,7 @@
 -- Equal numbers times the same scales.
 use Rattle.std.proofs.Common.{rules, ◌≡◌, pos, sym, ap, ◌∙◌}
-use Rattle.exact_algebra.specs.Rational.{◌*ℚ◌, whole}
-use Rattle.exact_algebra.proofs.Inverses.{*ℚ_cancel}
+use Rattle.rational_laws.specs.Rational.{◌*ℚ◌, whole}
+use Rattle.rational_laws.proofs.Inverses.{*ℚ_cancel}
 use Rattle.cert_sums.proofs.Balanced.{factor_of}
 use Rattle.cert_sums.proofs.segment_sums.shares.Goals as goal
 

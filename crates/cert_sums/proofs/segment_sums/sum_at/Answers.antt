@@ -1,8 +1,8 @@
 -- Both parts of the line, and the basic rows.
 use Rattle.std.proofs.Common.{rules, ◌≡◌, ◌+ℤ◌, ◌*ℤ◌, pos, to_z, of_z, ap, ◌∙◌}
 use mir.Syntax.{w128}
-use Rattle.exact_algebra.specs.Rational.{◌+ℚ◌, whole}
-use Rattle.exact_algebra.specs.WholeLists.{whole_at}
+use Rattle.rational_laws.specs.Rational.{◌+ℚ◌, whole}
+use Rattle.rational_laws.specs.WholeLists.{whole_at}
 use Rattle.cert_sums.specs.Slopes.{listed_total}
 use Rattle.cert_sums.proofs.Unsettled.{line_sum}
 use Rattle.cert_sums.proofs.segment_sums.sum_at.Goals as goal

@@ -1,7 +1,7 @@
 use Rattle.std.proofs.Common.{rules, arith, ◌≡◌, ◌+ℤ◌, ◌-ℤ◌, to_z, of_z}
 use Rattle.std.proofs.lemmas.Int.{ints}
 use mir.Syntax.{w128}
-use Rattle.exact_algebra.specs.Rational.{whole}
+use Rattle.rational_laws.specs.Rational.{whole}
 use Rattle.cert_sums.specs.Slopes.{part_at}
 use Rattle.cert_sums.proofs.Unsettled.{difference}
 use Rattle.cert_sums.proofs.slopes.change_of.Goals as goal

@@ -1,10 +1,10 @@
 -- A total more.
 use Rattle.std.proofs.Common.{rules, ◌≡◌, ◌++◌, ◌∷◌, [], to_z, of_z, ◌∙◌}
 use mir.Syntax.{w128}
-use Rattle.exact_algebra.specs.Rational.{◌+ℚ◌, whole}
-use Rattle.exact_algebra.proofs.Lists.{length_pushed}
+use Rattle.rational_laws.specs.Rational.{◌+ℚ◌, whole}
+use Rattle.rational_laws.proofs.Lists.{length_pushed}
 use Rattle.cert_sums.specs.Slopes.{line_total, listed_total}
-use Rattle.exact_algebra.proofs.WholeLists.{whole_pushed}
+use Rattle.rational_laws.proofs.WholeLists.{whole_pushed}
 use Rattle.cert_sums.proofs.Unsettled.{turned_line}
 use Rattle.cert_sums.proofs.slopes.turned_totals.Goals as goal
 

@@ -1,6 +1,6 @@
 use Rattle.std.proofs.Common.{rules, ◌≡◌, ◌+ℤ◌, ◌*ℤ◌, to_z, of_z}
 use mir.Syntax.{w128}
-use Rattle.exact_algebra.specs.Rational.{whole}
+use Rattle.rational_laws.specs.Rational.{whole}
 use Rattle.cert_sums.specs.Sums.{cell_at}
 use Rattle.cert_sums.proofs.Unsettled.{product_more}
 use Rattle.cert_sums.proofs.slopes.with_row.Goals as goal

@@ -1,9 +1,9 @@
 -- A row more.
 use Rattle.std.proofs.Common.{rules, ◌≡◌, ℕ, get_or, to_z, of_z, ap, ◌∙◌}
 use mir.Syntax.{w128}
-use Rattle.exact_algebra.specs.Rational.{◌+ℚ◌, ◌*ℚ◌, whole}
-use Rattle.exact_algebra.proofs.Signs.{plus-zero}
-use Rattle.exact_algebra.specs.WholeLists.{whole_at}
+use Rattle.rational_laws.specs.Rational.{◌+ℚ◌, ◌*ℚ◌, whole}
+use Rattle.rational_laws.proofs.Signs.{plus-zero}
+use Rattle.rational_laws.specs.WholeLists.{whole_at}
 use Rattle.cert_sums.specs.Sums.{cell_at}
 use Rattle.cert_sums.proofs.Unsettled.{added_next}
 use Rattle.cert_sums.proofs.slopes.with_rows.Goals as goal

@@ -1,5 +1,5 @@
 -- Sums of whole numbers that are 0.
-use Rattle.exact_algebra.specs.WholeLists.{whole_at}
+use Rattle.rational_laws.specs.WholeLists.{whole_at}
 use Rattle.cert_sums.proofs.Balanced.{wide_rows, balanced_but}
 use Rattle.cert_sums.proofs.totals.balances_but.Goals as goal
 

@@ -1,10 +1,10 @@
 -- The sum of whole numbers, over both scales.
 use Rattle.std.proofs.Common.{rules, ◌≡◌, ◌*◌, pos, to_z, of_z, arith, ap, ◌∙◌}
 use mir.Syntax.{w128}
-use Rattle.exact_algebra.specs.Fraction.{rational}
-use Rattle.exact_algebra.specs.Rational.{◌*ℚ◌, whole, inverse}
+use Rattle.rational_laws.specs.Fraction.{rational}
+use Rattle.rational_laws.specs.Rational.{◌*ℚ◌, whole, inverse}
 use Rattle.frac_core.specs.Values.{value as value128}
-use Rattle.exact_algebra.specs.WholeLists.{whole_at}
+use Rattle.rational_laws.specs.WholeLists.{whole_at}
 use Rattle.cert_sums.specs.Sums.{column_total}
 use Rattle.cert_sums.proofs.Balanced.{wide_rows, divided_from}
 use Rattle.cert_sums.proofs.totals.divided.Goals as goal

@@ -1,6 +1,6 @@
 -- A sum that is 0, unless the place is left out.
 use Rattle.std.proofs.Common.{rules, ◌≡◌, pos, ap, sym, ◌∙◌}
-use Rattle.exact_algebra.specs.Rational.{whole}
+use Rattle.rational_laws.specs.Rational.{whole}
 use Rattle.cert_sums.proofs.totals.vanishes.Goals as goal
 
 pub returns : goal.returns

@@ -2,8 +2,8 @@ use Rattle.std.proofs.Common.{w64, rules, ap, pos, ◌∙◌}
 use Rattle.std.proofs.lemmas.Int.{to_z-of_z}
 use Rattle.std.specs.Int.{w128}
 use mir.Val.{SFits}
-use Rattle.exact_algebra.specs.Rational.{◌*ℚ◌, inverse, whole}
-use Rattle.exact_algebra.proofs.Quotients.{quotient-one}
+use Rattle.rational_laws.specs.Rational.{◌*ℚ◌, inverse, whole}
+use Rattle.rational_laws.proofs.Quotients.{quotient-one}
 use Rattle.design_matrix.proofs.parts.whole_number.Goals as goal
 
 pub returns : goal.returns

@@ -1,6 +1,6 @@
 use Rattle.std.proofs.Common.{ap, sym, ◌∙◌}
-use Rattle.exact_algebra.specs.Rational.{◌*ℚ◌}
-use Rattle.exact_algebra.proofs.RationalLaws.{one-*ℚ}
+use Rattle.rational_laws.specs.Rational.{◌*ℚ◌}
+use Rattle.rational_laws.proofs.RationalLaws.{one-*ℚ}
 use Rattle.frac_core.specs.Values.{exact}
 use Rattle.design_matrix.proofs.rows.next_product.Goals as goal
 

@@ -1,6 +1,6 @@
 use Rattle.std.proofs.Common.{◌≡◌, arith, inl, inr, length, map, pos, refl, slice_index_or}
 use Rattle.std.proofs.lemmas.Result.{err_from_is_err_and}
-use Rattle.exact_algebra.specs.Rational.{whole}
+use Rattle.rational_laws.specs.Rational.{whole}
 use Rattle.design_matrix.specs.Parts.{factors}
 use Rattle.design_matrix.specs.Views.{part_seen}
 use Rattle.design_matrix.proofs.Products.{fits_more, fits_none, length_maps, product_step, spilt}

@@ -1,4 +1,4 @@
-use Rattle.exact_algebra.specs.Fraction.{rational}
+use Rattle.rational_laws.specs.Fraction.{rational}
 use Rattle.fraction_tableau.proofs.Crossed.{gains_some}
 use Rattle.fraction_tableau.proofs.crossings.meeting.Goals as goal
 

@@ -1,9 +1,9 @@
 use Rattle.std.specs.Prelude.{IsTrue, pos}
 use Rattle.std.specs.Ordering.{is_lt}
 use Rattle.std.proofs.Common.{◌≡◌, sym, ap, subst, ◌∙◌}
-use Rattle.exact_algebra.specs.Fraction.{rational}
-use Rattle.exact_algebra.specs.Rational.{ℚ, whole}
-use Rattle.exact_algebra.specs.Order.{cmp_ℚ}
+use Rattle.rational_laws.specs.Fraction.{rational}
+use Rattle.rational_laws.specs.Rational.{ℚ, whole}
+use Rattle.rational_laws.specs.Order.{cmp_ℚ}
 use Rattle.fraction_tableau.specs.Crossings.{Gains}
 use Rattle.fraction_tableau.proofs.Crossed.{below_test}
 use Rattle.fraction_tableau.proofs.crossings.passes.Goals as goal

@@ -1,7 +1,7 @@
 use Rattle.std.specs.Ordering.{is_lt}
 use Rattle.std.proofs.Common.{Some, refl, sym, ap, subst, ◌∙◌, inr}
-use Rattle.exact_algebra.specs.Fraction.{rational}
-use Rattle.exact_algebra.proofs.Signs.{not_below}
+use Rattle.rational_laws.specs.Fraction.{rational}
+use Rattle.rational_laws.proofs.Signs.{not_below}
 use Rattle.fraction_tableau.specs.Crossings.{IsSooner}
 use Rattle.fraction_tableau.proofs.crossings.sooner.Goals as goal
 

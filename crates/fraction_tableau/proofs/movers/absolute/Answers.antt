@@ -1,7 +1,7 @@
 use Rattle.std.proofs.Common.{pos, ◌≤ℤ◌, arith, sym}
 use Rattle.std.proofs.lemmas.Int.{ints}
-use Rattle.exact_algebra.specs.Fraction.{rational}
-use Rattle.pivot_rule.proofs.Entering.{abs_above}
+use Rattle.rational_laws.specs.Fraction.{rational}
+use Rattle.pivot_model.proofs.Entering.{abs_above}
 use Rattle.fraction_tableau.proofs.SlopeLaws.{from_sign}
 use Rattle.fraction_tableau.proofs.movers.absolute.Goals as goal
 

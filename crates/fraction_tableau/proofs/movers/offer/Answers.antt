@@ -1,5 +1,5 @@
 use Rattle.std.proofs.Common.{sym, ap, ◌∙◌}
-use Rattle.pivot_rule.specs.Steps.{is_towards}
+use Rattle.pivot_model.specs.Steps.{is_towards}
 use Rattle.fraction_tableau.proofs.Moving.{moving_is, below_skip, below_more}
 use Rattle.fraction_tableau.proofs.movers.offer.Goals as goal
 

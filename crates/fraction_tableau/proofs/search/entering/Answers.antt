@@ -1,7 +1,7 @@
 use Rattle.std.proofs.Common.{◌≡◌, ◌≤◌, ◌-◌, suc, length, refl, arith, pos, ◌≤ℤ◌, ◌<ℤ◌}
 use Rattle.std.proofs.lemmas.Int.{ints}
 use Rattle.std.proofs.lemmas.Result.{err_from_is_err_and}
-use Rattle.exact_algebra.specs.Fraction.{rational}
+use Rattle.rational_laws.specs.Fraction.{rational}
 use Rattle.fraction_tableau.proofs.SlopeLaws.{from_sign, from_negative_sign}
 use Rattle.fraction_tableau.proofs.Passed.{begun, slope_begun, negative_begun, first_mover, first_until, first_passed, first_enters, first_next, passing_next, exhausted, few}
 use Rattle.fraction_tableau.proofs.Moving.{line_fault}

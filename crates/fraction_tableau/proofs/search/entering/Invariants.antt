@@ -1,6 +1,6 @@
 use Rattle.std.proofs.Common.{◌≡◌, pos}
-use Rattle.exact_algebra.specs.Fraction.{rational}
-use Rattle.exact_algebra.specs.Rational.{whole, ◌≤ℚ◌}
+use Rattle.rational_laws.specs.Fraction.{rational}
+use Rattle.rational_laws.specs.Rational.{whole, ◌≤ℚ◌}
 use Rattle.fraction_tableau.proofs.Passed.{IsPassing, slope_after}
 use Rattle.fraction_tableau.proofs.search.entering.Given as goal
 

@@ -1,7 +1,7 @@
 use Rattle.std.specs.Ordering.{is_lt}
 use Rattle.std.proofs.Common.{refl, sym, ap, ◌∙◌, inr}
-use Rattle.exact_algebra.specs.Fraction.{rational}
-use Rattle.exact_algebra.proofs.Signs.{not_below}
+use Rattle.rational_laws.specs.Fraction.{rational}
+use Rattle.rational_laws.proofs.Signs.{not_below}
 use Rattle.fraction_tableau.proofs.slopes.steeper.Goals as goal
 
 pub returns-else-is_lt : goal.returns-else-is_lt

@@ -1,6 +1,6 @@
 use Rattle.std.proofs.Common.{◌≡◌, IfOk, arith, get_or, length, ap, ap₂, subst, ◌∙◌}
-use Rattle.exact_algebra.specs.Fraction.{rational}
-use Rattle.exact_algebra.specs.Rational.{◌*ℚ◌}
+use Rattle.rational_laws.specs.Fraction.{rational}
+use Rattle.rational_laws.specs.Rational.{◌*ℚ◌}
 use Rattle.gram_matrix.proofs.Rows.{entry_read, weight_read, width_read}
 use Rattle.gram_inverse.proofs.columns.weighted_entry.Goals as goal
 

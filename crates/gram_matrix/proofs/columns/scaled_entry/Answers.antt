@@ -1,6 +1,6 @@
 use Rattle.std.proofs.Common.{◌≡◌, List, get_or, refl, ap, ap₂, ◌∙◌}
 use Rattle.std.proofs.lemmas.Result.{err_from_is_err_and}
-use Rattle.exact_algebra.specs.Rational.{◌*ℚ◌}
+use Rattle.rational_laws.specs.Rational.{◌*ℚ◌}
 use Rattle.frac_core.specs.declared.exact.OpKind.TheVariants.{Mul}
 use Rattle.loss_model.specs.declared.spill.Quantity.TheVariants.{ScaledEntry}
 use Rattle.loss_model.specs.Spill.{site_of}

@@ -1,7 +1,7 @@
 use Rattle.std.proofs.Common.{inl, inr, ap, refl, ◌∙◌}
 use Rattle.std.proofs.lemmas.Result.{err_from_is_err_and}
 use Rattle.tv_penalty.proofs.Overflowing.{fits}
-use Rattle.exact_algebra.specs.Rational.{◌-ℚ◌}
+use Rattle.rational_laws.specs.Rational.{◌-ℚ◌}
 use Rattle.frac_core.specs.declared.exact.OpKind.TheVariants.{Mul, Sub}
 use Rattle.frac_core.specs.Values.{exact}
 use Rattle.loss_model.specs.declared.spill.Quantity.TheVariants.{PathCost}

@@ -1,6 +1,6 @@
 use Rattle.std.proofs.Common.{[]}
 use Rattle.std.proofs.lemmas.Result.{err_from_is_err_and}
-use Rattle.exact_algebra.proofs.Lists.{mapped_more}
+use Rattle.rational_laws.proofs.Lists.{mapped_more}
 use Rattle.frac_core.specs.Values.{exact}
 use Rattle.loss_model.specs.Values.{exact_row}
 use Rattle.lambda_path.specs.Rows.{data_row}

@@ -1,5 +1,5 @@
 use Rattle.std.proofs.Common.{◌≡◌, ◌<◌, length, arith, refl, sym, ap, ◌∙◌}
-use Rattle.exact_algebra.specs.Fraction.{rational}
+use Rattle.rational_laws.specs.Fraction.{rational}
 use Rattle.loss_model.specs.Spill.{abs_ℚ}
 use Rattle.loss_model.proofs.Products.{value_read}
 use Rattle.basis_model.proofs.Ratios.{abs_nonzero}

@@ -1,6 +1,6 @@
 use Rattle.std.proofs.Common.{arith, subst, pos, ◌≤ℤ◌}
 use Rattle.std.proofs.lemmas.Int.{ints}
-use Rattle.exact_algebra.specs.Fraction.{rational}
+use Rattle.rational_laws.specs.Fraction.{rational}
 use Rattle.lex_rule.proofs.Values.{own_size}
 use Rattle.lex_rule.proofs.quotient.absolute.Goals as goal
 

@@ -1,7 +1,7 @@
 use Rattle.std.proofs.Common.{◌≡◌, ◌≢◌, length, slice_index, pos, arith, sym, ap, ◌∙◌, ◌<◌}
-use Rattle.exact_algebra.specs.Fraction.{rational}
-use Rattle.exact_algebra.specs.Rational.{ℚ, neg_ℚ, whole}
-use Rattle.exact_algebra.specs.Order.{cmp_ℚ}
+use Rattle.rational_laws.specs.Fraction.{rational}
+use Rattle.rational_laws.specs.Rational.{ℚ, neg_ℚ, whole}
+use Rattle.rational_laws.specs.Order.{cmp_ℚ}
 use Rattle.loss_model.specs.Problem.{value_at}
 use Rattle.loss_model.proofs.Products.{value_read}
 use Rattle.basis_model.specs.Perturbed.{nonbasic, side_of}

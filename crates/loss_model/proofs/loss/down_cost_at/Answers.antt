@@ -1,4 +1,4 @@
-use Rattle.exact_algebra.specs.Fraction.{rational}
+use Rattle.rational_laws.specs.Fraction.{rational}
 use Rattle.loss_model.specs.declared.spill.Quantity.TheVariants.{CostValue}
 use Rattle.loss_model.specs.Spill.{site_of, IsTermSpill}
 use Rattle.loss_model.proofs.Residuals.{row_is, cost_exact, cost_spilled}

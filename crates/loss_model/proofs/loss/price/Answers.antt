@@ -1,7 +1,7 @@
 use Rattle.std.proofs.Common.{arith, ap, sym, inl, inr, ◌∙◌, pos, ◌≤ℤ◌}
 use Rattle.std.proofs.lemmas.Result.{err_from_is_err_and}
 use Rattle.std.proofs.lemmas.Int.{ints}
-use Rattle.exact_algebra.specs.Rational.{neg_ℚ}
+use Rattle.rational_laws.specs.Rational.{neg_ℚ}
 use Rattle.loss_model.proofs.Prices.{sign_above, sign_up, sign_below, cost_up, size_up, cost_down}
 use Rattle.loss_model.proofs.loss.price.Goals as goal
 

@@ -1,5 +1,5 @@
 use Rattle.std.proofs.Common.{◌≡◌}
-use Rattle.exact_algebra.specs.Fraction.{rational}
+use Rattle.rational_laws.specs.Fraction.{rational}
 use Rattle.loss_model.specs.Spill.{partial_sum}
 use Rattle.loss_model.specs.Sign.{products_of}
 use Rattle.loss_model.proofs.sites.sum_of_products.Given as goal

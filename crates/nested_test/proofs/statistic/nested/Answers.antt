@@ -1,5 +1,5 @@
 use Rattle.std.proofs.Common.{◌<◌, All, length, slice_index, pos, sym, ap, subst, ◌∙◌}
-use Rattle.exact_algebra.specs.Rational.{◌*ℚ◌, whole}
+use Rattle.rational_laws.specs.Rational.{◌*ℚ◌, whole}
 use Rattle.loss_model.specs.Problem.{value_at, sample}
 use Rattle.basis_inverse.specs.Square.{entries}
 use Rattle.nested_test.specs.Nested.{column_score}

@@ -1,7 +1,7 @@
 use Rattle.std.proofs.Common.{true, refl}
 use Rattle.std.proofs.lemmas.Result.{err_from_is_err_and}
-use Rattle.exact_algebra.specs.Fraction.{rational}
-use Rattle.exact_algebra.proofs.Signs.{plus-zero}
+use Rattle.rational_laws.specs.Fraction.{rational}
+use Rattle.rational_laws.proofs.Signs.{plus-zero}
 use Rattle.predict_steps.proofs.Predicted.{offset_more, offset_spill}
 use Rattle.predict_steps.proofs.prediction.plus_offsets.Goals as goal
 

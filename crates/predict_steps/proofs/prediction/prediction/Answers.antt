@@ -1,8 +1,8 @@
 use Rattle.std.proofs.Common.{ap, ◌∙◌}
 use Rattle.std.proofs.lemmas.Result.{IfOk-weaker}
-use Rattle.exact_algebra.specs.Rational.{◌+ℚ◌}
-use Rattle.exact_algebra.specs.RationalSums.{sum_ℚ}
-use Rattle.exact_algebra.proofs.RationalLaws.{zero-+ℚ}
+use Rattle.rational_laws.specs.Rational.{◌+ℚ◌}
+use Rattle.rational_laws.specs.RationalSums.{sum_ℚ}
+use Rattle.rational_laws.proofs.RationalLaws.{zero-+ℚ}
 use Rattle.loss_model.specs.Problem.{value_at}
 use Rattle.std.proofs.Common.{length}
 use Rattle.predict_steps.proofs.prediction.prediction.Goals as goal

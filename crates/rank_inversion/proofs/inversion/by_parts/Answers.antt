@@ -1,5 +1,5 @@
 use Rattle.std.proofs.Common.{sym, subst}
-use Rattle.exact_algebra.specs.Fraction.{rational}
+use Rattle.rational_laws.specs.Fraction.{rational}
 use Rattle.br_pivot.specs.Solutions.{IsSolution}
 use Rattle.rank_inversion.specs.declared.column_test.Asked.{Asked}
 use Rattle.rank_inversion.specs.Intervals.{IsRankInterval}

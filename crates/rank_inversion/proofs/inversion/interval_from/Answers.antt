@@ -1,6 +1,6 @@
 use Rattle.rank_inversion.proofs.Inverted.{exact_is, none_limited, stop_limited}
 use Rattle.rank_inversion.proofs.Causes.{by_walks}
-use Rattle.exact_algebra.specs.Fraction.{rational}
+use Rattle.rational_laws.specs.Fraction.{rational}
 use Rattle.rank_inversion.proofs.inversion.interval_from.Goals as goal
 
 pub returns-in-Ok-clause-exact : goal.returns-in-Ok-clause-exact

@@ -1,7 +1,7 @@
 use Rattle.std.specs.Prelude.{◌≡◌, ℕ, ◌<◌, length}
 use Rattle.loss_model.specs.Problem.{value_at}
 use Rattle.basis_inverse.specs.Square.{inverse_entry}
-use Rattle.rank_law.specs.Gram.{projection_of}
+use Rattle.rank_model.specs.Gram.{projection_of}
 use Rattle.rank_inversion.proofs.projection.factors.Given as goal
 
 abbrev pub invariant-loop-other : goal.invariant-loop-other

@@ -1,6 +1,6 @@
 use Rattle.std.proofs.Common.{ap₂, ◌∙◌}
-use Rattle.exact_algebra.specs.Rational.{◌*ℚ◌, inverse}
-use Rattle.exact_algebra.proofs.RationalLaws.{one-*ℚ}
+use Rattle.rational_laws.specs.Rational.{◌*ℚ◌, inverse}
+use Rattle.rational_laws.proofs.RationalLaws.{one-*ℚ}
 use Rattle.basis_inverse.specs.Square.{inverse_entry}
 use Rattle.rank_inversion.proofs.projection.length_at.Goals as goal
 

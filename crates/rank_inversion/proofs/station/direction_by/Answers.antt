@@ -1,6 +1,6 @@
 use Rattle.std.proofs.Common.{sym, ap, ◌∙◌}
-use Rattle.exact_algebra.specs.Fraction.{rational}
-use Rattle.exact_algebra.specs.Order.{cmp_ℚ}
+use Rattle.rational_laws.specs.Fraction.{rational}
+use Rattle.rational_laws.specs.Order.{cmp_ℚ}
 use Rattle.rank_inversion.proofs.EntrySigns.{stays_by}
 use Rattle.rank_inversion.proofs.station.direction_by.Goals as goal
 

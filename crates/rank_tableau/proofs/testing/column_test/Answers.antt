@@ -1,6 +1,6 @@
 use Rattle.std.proofs.Common.{rules, ◌≡◌, List, length, pos, sym, subst, ◌∙◌}
-use Rattle.exact_algebra.specs.Fraction.{rational}
-use Rattle.exact_algebra.proofs.Signs.{positive_nonzero}
+use Rattle.rational_laws.specs.Fraction.{rational}
+use Rattle.rational_laws.proofs.Signs.{positive_nonzero}
 use Rattle.whole_inverse.specs.Shares.{share_at}
 use Rattle.whole_rows.specs.declared.factor.Factor.{Factor}
 use Rattle.whole_rows.specs.Wholes.{factor_at, factor_value}

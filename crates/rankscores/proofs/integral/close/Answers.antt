@@ -1,6 +1,6 @@
 use Rattle.std.proofs.Common.{ap, sym, ◌∙◌}
-use Rattle.exact_algebra.specs.Rational.{◌+ℚ◌}
-use Rattle.exact_algebra.proofs.Signs.{plus-zero}
+use Rattle.rational_laws.specs.Rational.{◌+ℚ◌}
+use Rattle.rational_laws.proofs.Signs.{plus-zero}
 use Rattle.ratio.specs.Sums.{total}
 use Rattle.rankscores.specs.Rows.{run_length}
 use Rattle.rankscores.proofs.integral.close.Goals as goal

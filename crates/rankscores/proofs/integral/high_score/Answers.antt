@@ -1,5 +1,5 @@
 use Rattle.std.proofs.Common.{Some, sym, ap, ◌∙◌}
-use Rattle.exact_algebra.specs.Fraction.{rational}
+use Rattle.rational_laws.specs.Fraction.{rational}
 use Rattle.rankscores.proofs.integral.high_score.Goals as goal
 
 pub returns-in_ok-one-in-Up : goal.returns-in_ok-one-in-Up

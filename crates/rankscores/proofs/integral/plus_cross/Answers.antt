@@ -1,5 +1,5 @@
 use Rattle.std.proofs.Common.{Some, ap, ◌∙◌}
-use Rattle.exact_algebra.specs.Rational.{◌+ℚ◌}
+use Rattle.rational_laws.specs.Rational.{◌+ℚ◌}
 use Rattle.ratio.specs.Sums.{total}
 use Rattle.rankscores.specs.Rows.{run_length, segment_cross}
 use Rattle.rankscores.proofs.Runs.{run_on, down_on, basic_on}

@@ -1,5 +1,5 @@
 use Rattle.std.proofs.Common.{◌∙◌, ap}
-use Rattle.exact_algebra.specs.Fraction.{rational}
+use Rattle.rational_laws.specs.Fraction.{rational}
 use Rattle.rankscores.proofs.Stretches.{cross_of_stretch, raised_is}
 use Rattle.rankscores.proofs.score.basic_cross.Goals as goal
 

@@ -1,6 +1,6 @@
 use Rattle.std.proofs.Common.{◌≡◌, suc, [], ◌∷◌, ◌++◌, ◌∙◌, All, Some, ap, append-nil, arith, length, map, subst, sym}
 use Rattle.std.specs.Vec.Iter.{into_iter_items}
-use Rattle.rank_walk.specs.Intervals.{statement}
+use Rattle.rank_walk_model.specs.Intervals.{statement}
 use Rattle.rq_engine.specs.Intervals.{HasFactors}
 use Rattle.rq_engine.proofs.Certifying.{nothing_left, stated_more}
 use Rattle.rq_engine.proofs.certify.proofs.Goals as goal

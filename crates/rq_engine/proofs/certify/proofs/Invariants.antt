@@ -1,6 +1,6 @@
 use Rattle.std.proofs.Common.{◌≡◌, ◌++◌, All, Some, length, map}
 use Rattle.std.specs.Vec.Iter.{into_iter_items, into_iter_len}
-use Rattle.rank_walk.specs.Intervals.{statement}
+use Rattle.rank_walk_model.specs.Intervals.{statement}
 use Rattle.rq_engine.specs.Intervals.{HasFactors}
 use Rattle.rq_engine.proofs.certify.proofs.Given as goal
 

@@ -1,5 +1,5 @@
 use Rattle.std.proofs.Common.{arith, length, ap, sym, ◌∙◌}
-use Rattle.exact_algebra.specs.Fraction.{rational}
+use Rattle.rational_laws.specs.Fraction.{rational}
 use Rattle.frac_core.specs.Values.{value}
 use Rattle.rankscores.specs.Scores.{IsScored}
 use Rattle.rq_engine.proofs.Costs.{high_costs, low_costs}

@@ -1,5 +1,5 @@
 use Rattle.std.proofs.Common.{arith}
-use Rattle.exact_algebra.specs.Fraction.{rational}
+use Rattle.rational_laws.specs.Fraction.{rational}
 use Rattle.frac_core.specs.Values.{value}
 use Rattle.rq_engine.proofs.Costs.{high_costs, low_costs}
 use Rattle.rq_engine.proofs.Fits.{few_segments, process_right, right_process}

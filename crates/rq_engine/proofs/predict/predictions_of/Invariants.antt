@@ -1,6 +1,6 @@
 use Rattle.std.proofs.Common.{length, take}
 use Rattle.std.specs.List.{AllZip}
-use Rattle.exact_algebra.specs.Rational.{ℚ}
+use Rattle.rational_laws.specs.Rational.{ℚ}
 use Rattle.frac_core.specs.Values.{value}
 use Rattle.loss_model.specs.Segment.{Covers, segments_of}
 use Rattle.rq_engine.specs.Predicted.{IsPredictionBy}

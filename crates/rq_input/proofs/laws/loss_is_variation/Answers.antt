@@ -1,5 +1,5 @@
 use Rattle.std.proofs.Common.{ap, zip, ◌∙◌}
-use Rattle.exact_algebra.specs.Rational.{◌+ℚ◌}
+use Rattle.rational_laws.specs.Rational.{◌+ℚ◌}
 use Rattle.tv_penalty.specs.Variation.{penalty}
 use Rattle.rq_program.specs.Losses.{records_loss, smooth_part}
 use Rattle.rq_input.proofs.laws.loss_is_variation.Goals as goal

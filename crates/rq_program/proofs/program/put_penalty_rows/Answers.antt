@@ -1,7 +1,7 @@
 use Rattle.loss_model.specs.Values.{exact_row}
 use Rattle.rq_program.specs.Programs.{penalty_row}
 use Rattle.rq_program.proofs.program.put_penalty_rows.Goals as goal
-use Rattle.exact_algebra.proofs.Lists.{mapped_more}
+use Rattle.rational_laws.proofs.Lists.{mapped_more}
 
 pub loop-penalty-preserved : goal.loop-penalty-preserved
 loop-penalty-preserved c =

@@ -1,5 +1,5 @@
 use Rattle.std.specs.Prelude.{slice_index}
-use Rattle.exact_matrices.specs.Selections.{AreDistinct}
+use Rattle.rational_laws.specs.Selections.{AreDistinct}
 use Rattle.solver_tests.proofs.basic_solutions.are_distinct.Given as goal
 
 abbrev pub invariant-loop-k : goal.invariant-loop-k

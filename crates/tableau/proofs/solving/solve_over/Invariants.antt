@@ -1,5 +1,5 @@
 use Rattle.std.proofs.Common.{◌≡◌, length}
-use Rattle.exact_algebra.specs.Fraction.{rational}
+use Rattle.rational_laws.specs.Fraction.{rational}
 use Rattle.tableau.specs.Bodies.{place_of}
 use Rattle.tableau.specs.Solving.{IsUnderway}
 use Rattle.tableau.proofs.solving.solve_over.Given as goal

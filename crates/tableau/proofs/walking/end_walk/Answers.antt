@@ -1,4 +1,4 @@
-use Rattle.exact_algebra.specs.Fraction.{rational}
+use Rattle.rational_laws.specs.Fraction.{rational}
 use Rattle.tableau_model.specs.Questions.{walking}
 use Rattle.tableau.specs.Walking.{now_of, here_of}
 use Rattle.tableau.proofs.Halts.{refusal_kept}

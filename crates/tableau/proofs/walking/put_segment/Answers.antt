@@ -1,7 +1,7 @@
 use Rattle.std.specs.Ordering.{is_lt}
 use Rattle.std.proofs.Common.{inl, inr, refl, ◌∙◌, sym, ap}
-use Rattle.exact_algebra.specs.Fraction.{rational}
-use Rattle.walk_rule.proofs.Trails.{below_from}
+use Rattle.rational_laws.specs.Fraction.{rational}
+use Rattle.walk_model.proofs.Trails.{below_from}
 use Rattle.tableau.proofs.Walks.{same_from_test}
 use Rattle.tableau.proofs.walking.put_segment.Goals as goal
 

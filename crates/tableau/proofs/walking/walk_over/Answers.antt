@@ -1,6 +1,6 @@
 use Rattle.std.proofs.Common.{◌≡◌, ◌+◌, length, sym, ap, subst, arith, ◌∙◌}
 use Rattle.std.proofs.lemmas.List.{length_push}
-use Rattle.exact_algebra.specs.Fraction.{rational}
+use Rattle.rational_laws.specs.Fraction.{rational}
 use Rattle.tableau_model.specs.Questions.{walking}
 use Rattle.tableau.specs.Walking.{now_of, here_of, IsWalkHalted}
 use Rattle.tableau.proofs.Halts.{refusal_kept}

@@ -1,5 +1,5 @@
 use Rattle.std.proofs.Common.{◌≡◌, ◌≤◌, length}
-use Rattle.exact_algebra.specs.Fraction.{rational}
+use Rattle.rational_laws.specs.Fraction.{rational}
 use Rattle.tableau.specs.Walking.{IsWalking, here_of}
 use Rattle.tableau.proofs.walking.walk_over.Given as goal
 

@@ -1,5 +1,5 @@
 use Rattle.std.proofs.Common.{subst, IfErr}
-use Rattle.exact_algebra.specs.Fraction.{rational}
+use Rattle.rational_laws.specs.Fraction.{rational}
 use Rattle.tableau_model.specs.Places.{Task}
 use Rattle.tableau.specs.Bodies.{place_of}
 use Rattle.tableau.specs.Walking.{IsWalkHalted}

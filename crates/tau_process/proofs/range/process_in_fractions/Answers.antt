@@ -1,6 +1,6 @@
 use Rattle.std.proofs.Common.{sym, subst}
 use Rattle.std.proofs.lemmas.Result.{err_from_is_err_and}
-use Rattle.exact_algebra.specs.Fraction.{rational}
+use Rattle.rational_laws.specs.Fraction.{rational}
 use Rattle.tableau_model.specs.Places.{Task, in_fractions}
 use Rattle.tau_process.specs.Answers.{IsAnswer}
 use Rattle.tau_process.proofs.Ranges.{start_answers}

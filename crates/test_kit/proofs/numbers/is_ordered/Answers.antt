@@ -1,10 +1,10 @@
 use Rattle.std.specs.Ordering.{is_lt}
 use Rattle.std.proofs.Common.{◌≡◌, false, sym, ap, subst, ◌∙◌}
-use Rattle.exact_algebra.specs.Fraction.{rational}
-use Rattle.exact_algebra.specs.Rational.{ℚ, ◌≤ℚ◌}
-use Rattle.exact_algebra.proofs.RationalLaws.{≤ℚ_refl}
-use Rattle.exact_algebra.specs.Order.{cmp_ℚ}
-use Rattle.exact_algebra.proofs.OrderLaws.{by_cmp, le_from_not}
+use Rattle.rational_laws.specs.Fraction.{rational}
+use Rattle.rational_laws.specs.Rational.{ℚ, ◌≤ℚ◌}
+use Rattle.rational_laws.proofs.RationalLaws.{≤ℚ_refl}
+use Rattle.rational_laws.specs.Order.{cmp_ℚ}
+use Rattle.rational_laws.proofs.OrderLaws.{by_cmp, le_from_not}
 use Rattle.test_kit.proofs.numbers.is_ordered.Goals as goal
 
 not_below : (x y : ℚ) → is_lt (cmp_ℚ x y) ≡ false → y ≤ℚ x

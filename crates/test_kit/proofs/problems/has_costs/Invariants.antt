@@ -1,9 +1,9 @@
 use Rattle.std.specs.Prelude.{ℕ, ◌<◌, pos}
-use Rattle.exact_algebra.specs.Fraction.{rational}
-use Rattle.exact_algebra.specs.Rational.{◌+ℚ◌, ◌≤ℚ◌, whole}
+use Rattle.rational_laws.specs.Fraction.{rational}
+use Rattle.rational_laws.specs.Rational.{◌+ℚ◌, ◌≤ℚ◌, whole}
 use Rattle.loss_model.specs.Sample.{up_cost, down_cost}
 use Rattle.loss_model.specs.Problem.{sample}
-use Rattle.pivot_rule.specs.Duals.{◌<ℚ◌}
+use Rattle.pivot_model.specs.Duals.{◌<ℚ◌}
 use Rattle.test_kit.proofs.problems.has_costs.Given as goal
 
 abbrev pub invariant-loop-row : goal.invariant-loop-row

@@ -2,10 +2,10 @@
 use Rattle.std.specs.Ordering.{is_eq, is_lt}
 use Rattle.std.specs.Option.{option_map_or}
 use Rattle.std.proofs.Common.{◌≡◌, ◌<◌, ℕ, true, pos, Less, Option, List, length, get_or, refl, sym, ap, ◌∙◌}
-use Rattle.exact_algebra.specs.Fraction.{rational}
-use Rattle.exact_algebra.specs.Rational.{ℚ, whole, neg_ℚ}
-use Rattle.exact_algebra.specs.Order.{cmp_ℚ}
-use Rattle.exact_algebra.proofs.OrderLaws.{by_cmp}
+use Rattle.rational_laws.specs.Fraction.{rational}
+use Rattle.rational_laws.specs.Rational.{ℚ, whole, neg_ℚ}
+use Rattle.rational_laws.specs.Order.{cmp_ℚ}
+use Rattle.rational_laws.proofs.OrderLaws.{by_cmp}
 use Rattle.loss_model.specs.Problem.{of_row, sample}
 use Rattle.loss_model.specs.declared.problem.Row.{Row}
 use Rattle.std.proofs.lemmas.Option.{slice_get_read}

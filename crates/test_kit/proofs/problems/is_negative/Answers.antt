@@ -1,7 +1,7 @@
 use Rattle.std.proofs.Common.{pos, ◌≤ℤ◌, arith, subst}
 use Rattle.std.proofs.lemmas.Int.{ints}
-use Rattle.exact_algebra.specs.Fraction.{rational}
-use Rattle.exact_algebra.proofs.OrderLaws.{sign_ℚ-not_below}
+use Rattle.rational_laws.specs.Fraction.{rational}
+use Rattle.rational_laws.proofs.OrderLaws.{sign_ℚ-not_below}
 use Rattle.test_kit.proofs.problems.is_negative.Goals as goal
 
 pub returns-else-sign-lt0 : goal.returns-else-sign-lt0

@@ -1,6 +1,6 @@
 use Rattle.std.proofs.Common.{inl, inr, ap, refl, ◌∙◌}
 use Rattle.std.proofs.lemmas.Result.{err_from_is_err_and}
-use Rattle.exact_algebra.specs.Rational.{neg_ℚ, inverse}
+use Rattle.rational_laws.specs.Rational.{neg_ℚ, inverse}
 use Rattle.frac_core.specs.declared.exact.OpKind.TheVariants.{Add, Sub, Div}
 use Rattle.tv_penalty.proofs.Overflowing.{fits_at, gap_nonzero, made, spilt_at}
 use Rattle.tv_penalty.proofs.bends.bend_between.Goals as goal

@@ -1,6 +1,6 @@
 use Rattle.std.proofs.Common.{ap, refl, ◌∙◌}
-use Rattle.exact_algebra.specs.Rational.{◌*ℚ◌, inverse}
-use Rattle.exact_algebra.proofs.RationalLaws.{one-*ℚ}
+use Rattle.rational_laws.specs.Rational.{◌*ℚ◌, inverse}
+use Rattle.rational_laws.proofs.RationalLaws.{one-*ℚ}
 use Rattle.frac_core.specs.declared.exact.OpKind.TheVariants.{Div}
 use Rattle.frac_core.specs.Values.{exact}
 use Rattle.tv_penalty.proofs.Overflowing.{fits, spilt}

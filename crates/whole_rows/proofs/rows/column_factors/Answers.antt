@@ -1,7 +1,7 @@
 -- A factor more.
 use Rattle.std.proofs.Common.{rules, ◌≡◌, ◌++◌, ◌∷◌, []}
 use Rattle.std.proofs.lemmas.List.Elements.{All-push}
-use Rattle.exact_algebra.proofs.Lists.{length_pushed}
+use Rattle.rational_laws.proofs.Lists.{length_pushed}
 use Rattle.whole_rows.specs.Wholes.{IsPositive}
 use Rattle.whole_rows.proofs.rows.column_factors.Goals as goal
 

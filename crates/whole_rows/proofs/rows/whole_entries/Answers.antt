@@ -4,7 +4,7 @@ use Rattle.std.specs.Prelude.{Option, pos}
 use Rattle.std.specs.Option.{option_map_or}
 use Rattle.std.proofs.lemmas.List.{length_push}
 use Rattle.std.proofs.lemmas.Option.{slice_get-get_or}
-use Rattle.exact_algebra.specs.Rational.{ℚ, ◌*ℚ◌, whole}
+use Rattle.rational_laws.specs.Rational.{ℚ, ◌*ℚ◌, whole}
 use Rattle.loss_model.specs.Problem.{value_at}
 use Rattle.loss_model.proofs.Products.{value_read}
 use Rattle.basis_inverse.proofs.Lists.{read_more}

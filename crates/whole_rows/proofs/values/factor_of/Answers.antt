@@ -3,9 +3,9 @@ use Rattle.std.specs.Prelude.{Option}
 use Rattle.std.specs.Option.{option_map_or}
 use Rattle.std.proofs.Common.{◌≤◌, length, pos, arith, sym, ap, ◌∙◌}
 use Rattle.std.proofs.lemmas.Option.{slice_get_past}
-use Rattle.exact_algebra.specs.Rational.{whole}
-use Rattle.exact_algebra.proofs.RationalLaws.{*ℚ-inverse}
-use Rattle.exact_algebra.proofs.Inverses.{one-zero}
+use Rattle.rational_laws.specs.Rational.{whole}
+use Rattle.rational_laws.proofs.RationalLaws.{*ℚ-inverse}
+use Rattle.rational_laws.proofs.Inverses.{one-zero}
 use Rattle.whole_rows.specs.declared.factor.Factor.{Factor}
 use Rattle.whole_rows.specs.Wholes.{factor_value}
 use Rattle.whole_rows.proofs.values.factor_of.Goals as goal

@@ -1,7 +1,7 @@
 -- A value more.
 use Rattle.std.proofs.Common.{rules, ◌≡◌, ◌++◌, ◌∷◌, [], ap₂, ◌∙◌, ap, ◌+◌}
 use Rattle.std.proofs.lemmas.List.{length_push}
-use Rattle.exact_algebra.specs.Rational.{◌*ℚ◌}
+use Rattle.rational_laws.specs.Rational.{◌*ℚ◌}
 use Rattle.loss_model.specs.Problem.{value_at}
 use Rattle.loss_model.proofs.Products.{value_read}
 use Rattle.whole_rows.specs.Wholes.{factor_at}

@@ -1,5 +1,5 @@
 use Rattle.std.proofs.Common.{◌≡◌, ℕ, ◌<◌, length}
-use Rattle.exact_algebra.specs.Rational.{◌*ℚ◌}
+use Rattle.rational_laws.specs.Rational.{◌*ℚ◌}
 use Rattle.loss_model.specs.Problem.{value_at}
 use Rattle.whole_rows.specs.Wholes.{factor_at}
 use Rattle.whole_rows.proofs.values.scaled.Given as goal

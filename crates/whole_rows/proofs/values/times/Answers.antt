@@ -1,7 +1,7 @@
 -- The product with the factor as a fraction.
 use Rattle.std.proofs.Common.{rules, ◌≡◌, ap, ◌∙◌}
-use Rattle.exact_algebra.specs.Fraction.{rational}
-use Rattle.exact_algebra.specs.Rational.{◌*ℚ◌}
+use Rattle.rational_laws.specs.Fraction.{rational}
+use Rattle.rational_laws.specs.Rational.{◌*ℚ◌}
 use Rattle.whole_rows.specs.Wholes.{factor_value}
 use Rattle.whole_rows.proofs.values.times.Goals as goal
 

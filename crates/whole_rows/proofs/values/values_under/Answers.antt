@@ -2,8 +2,8 @@
 use Rattle.std.proofs.Common.{rules, ◌≡◌, ◌++◌, ◌∷◌, [], get_or, pos, to_z, of_z, ap, ◌∙◌, ◌+◌}
 use Rattle.std.proofs.lemmas.List.{length_push}
 use mir.Syntax.{w128}
-use Rattle.exact_algebra.specs.Fraction.{rational}
-use Rattle.exact_algebra.specs.Rational.{◌*ℚ◌, inverse}
+use Rattle.rational_laws.specs.Fraction.{rational}
+use Rattle.rational_laws.specs.Rational.{◌*ℚ◌, inverse}
 use Rattle.whole_inverse.specs.Shares.{share, share_at}
 use Rattle.whole_inverse.proofs.Lists.{share_read}
 use Rattle.whole_rows.proofs.ValueLists.{value_pushed}

@@ -1,6 +1,6 @@
 -- The number is negated.
 use Rattle.std.proofs.Common.{rules, ◌≡◌, neg_ℤ, to_z, of_z, w64}
-use Rattle.exact_algebra.proofs.WholeNumbers.{whole-neg}
+use Rattle.rational_laws.proofs.WholeNumbers.{whole-neg}
 use Rattle.whole_solution.proofs.bounds.negation.Goals as goal
 
 pub returns-in-Some : goal.returns-in-Some

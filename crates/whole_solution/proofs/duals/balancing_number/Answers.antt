@@ -3,7 +3,7 @@ use Rattle.std.proofs.Common.{rules, ◌≡◌, ℤ, IfOk, length, to_z, of_z, s
 use mir.Syntax.{w128}
 use Rattle.std.proofs.lemmas.Result.{IfOk-weaker}
 use Rattle.std.proofs.lemmas.Option.{get_or_from_slice_get}
-use Rattle.exact_algebra.specs.Rational.{neg_ℚ}
+use Rattle.rational_laws.specs.Rational.{neg_ℚ}
 use Rattle.whole_inverse.specs.Shares.{share}
 use Rattle.whole_solution.proofs.Balanced.{balancing_share}
 use Rattle.whole_solution.proofs.duals.balancing_number.Goals as goal

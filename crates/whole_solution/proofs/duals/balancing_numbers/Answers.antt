@@ -1,7 +1,7 @@
 -- A position more.
 use Rattle.std.proofs.Common.{rules, ◌≡◌, ◌++◌, ◌∷◌, [], length}
 use Rattle.basis_model.specs.Basis.{balancing}
-use Rattle.exact_algebra.specs.WholeLists.{whole_at}
+use Rattle.rational_laws.specs.WholeLists.{whole_at}
 use Rattle.whole_inverse.specs.Shares.{shares}
 use Rattle.whole_inverse.proofs.Lists.{share_pushed, length_pushed}
 use Rattle.whole_solution.proofs.duals.balancing_numbers.Goals as goal

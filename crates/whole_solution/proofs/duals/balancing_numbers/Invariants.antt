@@ -1,6 +1,6 @@
 use Rattle.std.proofs.Common.{◌≡◌, ℕ, ℤ, ◌<◌, length}
 use Rattle.basis_model.specs.Basis.{balancing}
-use Rattle.exact_algebra.specs.WholeLists.{whole_at}
+use Rattle.rational_laws.specs.WholeLists.{whole_at}
 use Rattle.whole_inverse.specs.Shares.{share_at, shares}
 use Rattle.whole_solution.proofs.duals.balancing_numbers.Given as goal
 

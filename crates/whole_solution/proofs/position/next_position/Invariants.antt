@@ -1,5 +1,5 @@
 use Rattle.std.specs.Prelude.{slice_index}
-use Rattle.exact_algebra.specs.WholeLists.{whole_at}
+use Rattle.rational_laws.specs.WholeLists.{whole_at}
 use Rattle.lex_rule.proofs.Scanned.{IsScanned}
 use Rattle.whole_solution.proofs.position.next_position.Given as goal
 

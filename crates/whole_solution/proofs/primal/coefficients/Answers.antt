@@ -1,9 +1,9 @@
 -- A coefficient more.
 use Rattle.std.proofs.Common.{rules, ◌≡◌, ◌++◌, ◌∷◌, [], refl, ◌∙◌}
 use Rattle.std.specs.Prelude.{slice_index}
-use Rattle.exact_algebra.specs.Rational.{whole}
+use Rattle.rational_laws.specs.Rational.{whole}
 use Rattle.basis_model.specs.Basis.{coefficient}
-use Rattle.exact_algebra.specs.WholeLists.{whole_at}
+use Rattle.rational_laws.specs.WholeLists.{whole_at}
 use Rattle.whole_inverse.specs.Squares.{inverse_of}
 use Rattle.whole_rows.specs.Wholes.{of_whole, sample_of_rows}
 use Rattle.whole_inverse.proofs.Lists.{share_pushed, length_pushed}

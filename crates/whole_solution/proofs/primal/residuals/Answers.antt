@@ -1,7 +1,7 @@
 -- A residual more.
 use Rattle.std.proofs.Common.{rules, ◌≡◌, ◌<◌, ◌++◌, ◌∷◌, [], length, get_or, pos, to_z, of_z, arith, sym, ap₂, ◌∙◌}
 use mir.Syntax.{w128}
-use Rattle.exact_algebra.specs.Rational.{◌-ℚ◌, whole}
+use Rattle.rational_laws.specs.Rational.{◌-ℚ◌, whole}
 use Rattle.whole_inverse.specs.Shares.{share, share_at}
 use Rattle.whole_inverse.proofs.Lists.{share_read, share_pushed, length_pushed}
 use Rattle.whole_rows.specs.Wholes.{of_whole}

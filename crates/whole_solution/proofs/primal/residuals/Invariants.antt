@@ -1,5 +1,5 @@
 use Rattle.std.proofs.Common.{◌≡◌, ℕ, ◌<◌, length}
-use Rattle.exact_algebra.specs.Rational.{◌-ℚ◌, whole}
+use Rattle.rational_laws.specs.Rational.{◌-ℚ◌, whole}
 use Rattle.whole_inverse.specs.Shares.{share_at}
 use Rattle.whole_rows.specs.Wholes.{of_whole}
 use Rattle.whole_solution.proofs.primal.residuals.Given as goal

@@ -1,7 +1,7 @@
 use Rattle.std.proofs.Common.{◌≡◌, ℕ, ◌<◌, length}
 use Rattle.std.specs.Prelude.{slice_index}
-use Rattle.exact_algebra.specs.Rational.{whole}
-use Rattle.exact_algebra.specs.WholeLists.{whole_at}
+use Rattle.rational_laws.specs.Rational.{whole}
+use Rattle.rational_laws.specs.WholeLists.{whole_at}
 use Rattle.whole_rows.specs.Wholes.{of_whole}
 use Rattle.whole_solution.proofs.primal.responses.Given as goal
 

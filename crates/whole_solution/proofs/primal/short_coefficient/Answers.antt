@@ -2,10 +2,10 @@
 use Rattle.std.proofs.Common.{rules, ◌≡◌, ◌<◌, ◌+ℤ◌, ◌*ℤ◌, [], ◌∷◌, length, get_or, pos, to_z, of_z, arith, refl, sym, ap₂, subst, ◌∙◌}
 use mir.Syntax.{w128}
 use Rattle.std.proofs.lemmas.Option.{get_or_from_slice_get}
-use Rattle.exact_algebra.specs.Solver.{number, ◌⊠◌, v0}
-use Rattle.exact_algebra.specs.Rational.{◌*ℚ◌, inverse, whole}
-use Rattle.exact_algebra.proofs.RationalLaws.{ring_ℚ}
-use Rattle.exact_algebra.specs.WholeLists.{whole_at}
+use Rattle.rational_laws.specs.Solver.{number, ◌⊠◌, v0}
+use Rattle.rational_laws.specs.Rational.{◌*ℚ◌, inverse, whole}
+use Rattle.rational_laws.proofs.RationalLaws.{ring_ℚ}
+use Rattle.rational_laws.specs.WholeLists.{whole_at}
 use Rattle.whole_inverse.specs.Shares.{share, shares}
 use Rattle.whole_inverse.proofs.Lists.{share_read}
 use Rattle.whole_solution.proofs.Balanced.{column_at, share_at-one, share_one}

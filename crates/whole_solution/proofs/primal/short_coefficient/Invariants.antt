@@ -1,7 +1,7 @@
 use Rattle.std.proofs.Common.{◌≡◌, ℤ}
-use Rattle.exact_algebra.specs.Rational.{◌*ℚ◌}
-use Rattle.exact_algebra.specs.RationalSums.{sum_ℚ}
-use Rattle.exact_algebra.specs.WholeLists.{whole_at}
+use Rattle.rational_laws.specs.Rational.{◌*ℚ◌}
+use Rattle.rational_laws.specs.RationalSums.{sum_ℚ}
+use Rattle.rational_laws.specs.WholeLists.{whole_at}
 use Rattle.whole_inverse.specs.Shares.{share, shares}
 use Rattle.whole_solution.proofs.primal.short_coefficient.Given as goal
 

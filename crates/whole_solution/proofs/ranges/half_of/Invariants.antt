@@ -1,7 +1,7 @@
 use Rattle.std.proofs.Common.{ℕ, ◌<◌, pos}
-use Rattle.exact_algebra.specs.Rational.{◌-ℚ◌, ◌≤ℚ◌, whole}
+use Rattle.rational_laws.specs.Rational.{◌-ℚ◌, ◌≤ℚ◌, whole}
 use Rattle.loss_model.specs.Spill.{abs_ℚ}
-use Rattle.exact_algebra.specs.WholeLists.{whole_at}
+use Rattle.rational_laws.specs.WholeLists.{whole_at}
 use Rattle.whole_rows.specs.Wholes.{of_whole}
 use Rattle.whole_solution.proofs.ranges.half_of.Given as goal
 

@@ -1,6 +1,6 @@
 -- A side more.
 use Rattle.std.proofs.Common.{rules, ◌≡◌, ◌++◌, ◌∷◌, [], refl}
-use Rattle.exact_algebra.proofs.Lists.{length_pushed}
+use Rattle.rational_laws.proofs.Lists.{length_pushed}
 use Rattle.loss_model.specs.declared.vertex.Side.TheVariants.{Basic}
 use Rattle.whole_solution.proofs.Reading.{side_pushed}
 use Rattle.whole_solution.proofs.sides.basic_sides.Goals as goal

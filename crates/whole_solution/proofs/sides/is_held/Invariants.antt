@@ -1,5 +1,5 @@
 use Rattle.std.specs.Prelude.{◌≡◌, slice_index}
-use Rattle.exact_matrices.specs.Selections.{is_among}
+use Rattle.rational_laws.specs.Selections.{is_among}
 use Rattle.whole_solution.proofs.sides.is_held.Given as goal
 
 abbrev pub invariant-loop-j : goal.invariant-loop-j

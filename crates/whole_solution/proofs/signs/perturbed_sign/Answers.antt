@@ -1,11 +1,11 @@
 -- By the residual, by the first coordinate, or by the row itself.
 use Rattle.std.proofs.Common.{rules, ◌≡◌, ◌≢◌, ◌<◌, ◌≤ℤ◌, ℤ, length, slice_index, pos, get_or, to_z, of_z, arith, ◌∙◌}
 use mir.Syntax.{w128}
-use Rattle.exact_algebra.specs.Rational.{neg_ℚ, whole}
-use Rattle.exact_algebra.specs.Order.{cmp_ℚ}
+use Rattle.rational_laws.specs.Rational.{neg_ℚ, whole}
+use Rattle.rational_laws.specs.Order.{cmp_ℚ}
 use Rattle.basis_model.specs.Perturbed.{side_of}
 use Rattle.lex_rule.specs.Scan.{IsNextAt, AreZeroBetween}
-use Rattle.exact_algebra.specs.WholeLists.{whole_at}
+use Rattle.rational_laws.specs.WholeLists.{whole_at}
 use Rattle.whole_inverse.specs.Shares.{share}
 use Rattle.whole_solution.proofs.Made.{by_residual, by_held, by_own}
 use Rattle.whole_solution.proofs.signs.perturbed_sign.Goals as goal

@@ -1,8 +1,8 @@
 -- A column more.
 use Rattle.std.proofs.Common.{rules, ◌≡◌, ◌<◌, length, get_or, slice_set, pos, to_z, of_z, ◌+ℤ◌, ◌*ℤ◌, arith, sym, ap₂, ◌∙◌, length-set}
 use mir.Syntax.{w128}
-use Rattle.exact_algebra.specs.Rational.{◌+ℚ◌, ◌*ℚ◌, whole}
-use Rattle.exact_algebra.specs.WholeLists.{whole_at}
+use Rattle.rational_laws.specs.Rational.{◌+ℚ◌, ◌*ℚ◌, whole}
+use Rattle.rational_laws.specs.WholeLists.{whole_at}
 use Rattle.whole_solution.proofs.Numbers.{whole_read}
 use Rattle.whole_solution.proofs.Reading.{whole_put, whole_behind}
 use Rattle.whole_solution.proofs.Moved.{raised_whole}

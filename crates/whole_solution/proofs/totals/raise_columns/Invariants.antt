@@ -1,6 +1,6 @@
 use Rattle.std.proofs.Common.{◌≡◌, ℕ, ◌<◌, ◌≤◌, length}
-use Rattle.exact_algebra.specs.Rational.{◌+ℚ◌, ◌*ℚ◌, whole}
-use Rattle.exact_algebra.specs.WholeLists.{whole_at}
+use Rattle.rational_laws.specs.Rational.{◌+ℚ◌, ◌*ℚ◌, whole}
+use Rattle.rational_laws.specs.WholeLists.{whole_at}
 use Rattle.whole_solution.proofs.totals.raise_columns.Given as goal
 
 abbrev pub invariant-loop-k : goal.invariant-loop-k

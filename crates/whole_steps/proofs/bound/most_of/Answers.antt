@@ -2,7 +2,7 @@
 use Rattle.std.proofs.Common.{rules, ◌≡◌, ◌+◌, ◌*◌, ◌+ℤ◌, ◌*ℤ◌, get_or, length, pos, unsigned_abs, to_z, of_z, subst, arith}
 use Rattle.std.specs.Prelude.{slice_index}
 use mir.Syntax.{w128}
-use Rattle.exact_algebra.specs.Rational.{whole}
+use Rattle.rational_laws.specs.Rational.{whole}
 use Rattle.whole_solution.specs.Ranges.{most_of_products}
 use Rattle.whole_solution.proofs.Within.{halves_more, middles_more, most_is}
 use Rattle.whole_steps.proofs.bound.most_of.Goals as goal

@@ -1,5 +1,5 @@
 use Rattle.std.proofs.Common.{◌≡◌, get_or, pos}
-use Rattle.exact_algebra.specs.Rational.{whole}
+use Rattle.rational_laws.specs.Rational.{whole}
 use Rattle.whole_solution.specs.Ranges.{at_halves, at_middles}
 use Rattle.whole_steps.proofs.bound.most_of.Given as goal
 

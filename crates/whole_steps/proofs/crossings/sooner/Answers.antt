@@ -1,7 +1,7 @@
 -- The first is not after the second.
 use Rattle.std.proofs.Common.{Some, refl, sym, subst, ◌∙◌, inr}
-use Rattle.exact_algebra.specs.Fraction.{rational}
-use Rattle.exact_algebra.proofs.Signs.{not_below}
+use Rattle.rational_laws.specs.Fraction.{rational}
+use Rattle.rational_laws.proofs.Signs.{not_below}
 use Rattle.fraction_tableau.specs.Crossings.{IsSooner}
 use Rattle.whole_steps.specs.Crossings.{quotient_value}
 use Rattle.whole_steps.proofs.crossings.sooner.Goals as goal

@@ -2,8 +2,8 @@
 use Rattle.std.proofs.Common.{rules, ◌≡◌, pos, to_z, of_z, sym, ap, ◌∙◌}
 use mir.Syntax.{w128}
 use Rattle.std.specs.Ordering.{is_gt}
-use Rattle.exact_algebra.specs.Rational.{whole}
-use Rattle.exact_algebra.specs.Order.{cmp_ℚ}
+use Rattle.rational_laws.specs.Rational.{whole}
+use Rattle.rational_laws.specs.Order.{cmp_ℚ}
 use Rattle.whole_inverse.specs.Shares.{share}
 use Rattle.whole_steps.specs.Lines.{turned_by}
 use Rattle.whole_steps.proofs.Signs.{rises_by}

@@ -1,5 +1,5 @@
 use Rattle.std.proofs.Common.{◌≡◌}
-use Rattle.exact_algebra.specs.Fraction.{rational}
+use Rattle.rational_laws.specs.Fraction.{rational}
 use Rattle.cert_checker.specs.Formulas.{worth, less_others}
 use Rattle.cert_checker.proofs.formula.RestExpression.exact.Given as goal
 

@@ -1,5 +1,5 @@
 use Rattle.std.proofs.Common.{◌∙◌}
-use Rattle.exact_algebra.specs.Fraction.{rational}
+use Rattle.rational_laws.specs.Fraction.{rational}
 use Rattle.cert_checker.specs.Views.{question}
 use Rattle.cert_checker.proofs.Wide.{bound_is}
 use Rattle.cert_checker.proofs.projection.RankBoundExpression.exact.Goals as goal

@@ -1,5 +1,5 @@
 use Rattle.std.proofs.Common.{◌↔◌, IsTrue, subst, sym, ◌∙◌, ap}
-use Rattle.exact_algebra.specs.Fraction.{rational}
+use Rattle.rational_laws.specs.Fraction.{rational}
 use Rattle.cert_checker.specs.Relations.{agrees}
 use Rattle.cert_checker.specs.Tests.{Holds}
 use Rattle.cert_checker.proofs.Agrees.{agrees_holds}

@@ -1,6 +1,6 @@
 use Rattle.std.proofs.Common.{◌∙◌, ap, pos}
 use Rattle.std.specs.Prelude.{slice_get}
-use Rattle.exact_algebra.specs.Rational.{whole}
+use Rattle.rational_laws.specs.Rational.{whole}
 use Rattle.design_matrix.specs.Computed.{arith_at}
 use Rattle.design_matrix.proofs.Responses.{value_kept}
 use Rattle.design_matrix.proofs.computed.Computed.at.Goals as goal

@@ -1,6 +1,6 @@
 use Rattle.std.proofs.Common.{rules, ◌≡◌, ◌≢◌, pos, SFits, to_z-of_z}
 use mir.Syntax.{w128}
-use Rattle.exact_algebra.proofs.Quotients.{quotient-zero}
+use Rattle.rational_laws.proofs.Quotients.{quotient-zero}
 use Rattle.frac_core.specs.Parts.{fraction}
 use Rattle.frac_core.specs.Overflow.{inverse_of}
 use Rattle.frac_core.proofs.Values.{inverse_is}

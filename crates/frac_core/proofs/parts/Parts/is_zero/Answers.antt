@@ -1,7 +1,7 @@
 use Rattle.std.proofs.Common.{rules, ◌≡◌, ◌==◌, ◌↔◌, ℤ, pos, negsuc, zero, suc, refl, of_z, IsTrue, SFits, arith}
 use Rattle.std.proofs.lemmas.Int.{ints}
 use mir.Syntax.{w128}
-use Rattle.exact_algebra.proofs.Quotients.{quotient-zero}
+use Rattle.rational_laws.proofs.Quotients.{quotient-zero}
 use Rattle.frac_core.specs.Parts.{fraction}
 use Rattle.frac_core.proofs.parts.Parts.is_zero.Goals as goal
 

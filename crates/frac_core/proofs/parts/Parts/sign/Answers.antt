@@ -2,7 +2,7 @@ use Rattle.std.proofs.Common.{rules, ◌≡◌, to_z, of_z, sym, ◌∙◌, arit
 use Rattle.std.specs.Int.{int_signum}
 use Rattle.std.proofs.lemmas.Int.{ints}
 use mir.Syntax.{w128}
-use Rattle.exact_algebra.proofs.OrderLaws.{sign_ℚ-quotient}
+use Rattle.rational_laws.proofs.OrderLaws.{sign_ℚ-quotient}
 use Rattle.frac_core.proofs.parts.Parts.sign.Goals as goal
 
 pub returns : goal.returns

@@ -1,8 +1,8 @@
 use Rattle.std.proofs.Common.{◌≡◌, ◌<ℤ◌, pos, unsigned_abs, SFits, to_z-of_z, ap, ◌∙◌, arith}
 use Rattle.std.proofs.lemmas.Int.{ints}
 use mir.Syntax.{w128}
-use Rattle.exact_algebra.specs.Rational.{neg_ℚ, quotient}
-use Rattle.exact_algebra.proofs.Quotients.{quotient-negative}
+use Rattle.rational_laws.specs.Rational.{neg_ℚ, quotient}
+use Rattle.rational_laws.proofs.Quotients.{quotient-negative}
 use Rattle.frac_core.proofs.parts.Parts.signed_lowest.Goals as goal
 
 pub returns-then-d-lt0-clause-exact : goal.returns-then-d-lt0-clause-exact

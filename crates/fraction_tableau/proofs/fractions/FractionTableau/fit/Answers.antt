@@ -1,6 +1,6 @@
 use Rattle.std.proofs.Common.{length, slice_index, sym, ap, ◌∙◌}
-use Rattle.exact_algebra.specs.Fraction.{rational}
-use Rattle.exact_algebra.proofs.Lists.{contains_item}
+use Rattle.rational_laws.specs.Fraction.{rational}
+use Rattle.rational_laws.proofs.Lists.{contains_item}
 use Rattle.fraction_tableau.specs.Kept.{place}
 use Rattle.fraction_tableau.proofs.Places.{kept_is_place}
 use Rattle.fraction_tableau.proofs.Vertices.{distinct_rows, is_vertex, basic_duals}

@@ -1,8 +1,8 @@
 use Rattle.std.proofs.Common.{slice_index, refl}
-use Rattle.exact_algebra.specs.Fraction.{rational}
+use Rattle.rational_laws.specs.Fraction.{rational}
 use Rattle.loss_model.specs.Problem.{sample}
 use Rattle.basis_inverse.specs.Square.{inverse_entry}
-use Rattle.pivot_rule.specs.Spills.{IsStepSpill}
+use Rattle.pivot_model.specs.Spills.{IsStepSpill}
 use Rattle.tableau_model.specs.Questions.{solving}
 use Rattle.fraction_tableau.specs.Kept.{place}
 use Rattle.fraction_tableau.proofs.Refusals.{short_refused}

@@ -1,8 +1,8 @@
 use Rattle.std.proofs.Common.{slice_index, refl}
-use Rattle.exact_algebra.specs.Fraction.{rational}
+use Rattle.rational_laws.specs.Fraction.{rational}
 use Rattle.loss_model.specs.Problem.{sample}
 use Rattle.basis_inverse.specs.Square.{inverse_entry}
-use Rattle.walk_rule.specs.WalkSpills.{IsStaySpill}
+use Rattle.walk_model.specs.WalkSpills.{IsStaySpill}
 use Rattle.tableau_model.specs.Questions.{walking}
 use Rattle.fraction_tableau.specs.Kept.{place}
 use Rattle.fraction_tableau.proofs.Refusals.{short_refused}

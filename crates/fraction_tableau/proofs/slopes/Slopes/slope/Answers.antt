@@ -1,6 +1,6 @@
 use Rattle.std.proofs.Common.{inl, inr}
 use Rattle.std.proofs.lemmas.Result.{err_from_is_err_and}
-use Rattle.pivot_rule.specs.Spills.{of_cost}
+use Rattle.pivot_model.specs.Spills.{of_cost}
 use Rattle.fraction_tableau.proofs.SlopeLaws.{up_slope, down_slope, up_slope_spill, down_slope_spill}
 use Rattle.fraction_tableau.proofs.slopes.Slopes.slope.Goals as goal
 

@@ -1,6 +1,6 @@
 use Rattle.std.proofs.Common.{◌≡◌, subst, arith, pos, ◌≤ℤ◌, ◌<ℤ◌}
 use Rattle.std.proofs.lemmas.Int.{ints}
-use Rattle.exact_algebra.specs.Fraction.{rational}
+use Rattle.rational_laws.specs.Fraction.{rational}
 use Rattle.fraction_tableau.specs.Slopes.{IsLeast, model, rows_of, inverse_of}
 use Rattle.fraction_tableau.proofs.SlopeLaws.{one_more, none_negative, leaves, from_sign, from_negative_sign}
 use Rattle.fraction_tableau.proofs.slopes.Slopes.steepest.Goals as goal

@@ -1,4 +1,4 @@
-use Rattle.exact_algebra.specs.Fraction.{rational}
+use Rattle.rational_laws.specs.Fraction.{rational}
 use Rattle.fraction_tableau.specs.Slopes.{IsLeast, model, rows_of, inverse_of}
 use Rattle.fraction_tableau.proofs.slopes.Slopes.steepest.Given as goal
 

@@ -1,6 +1,6 @@
 use Rattle.std.proofs.Common.{length, inr}
 use Rattle.std.proofs.lemmas.Result.{err_from_is_err_and}
-use Rattle.exact_algebra.specs.Fraction.{rational}
+use Rattle.rational_laws.specs.Fraction.{rational}
 use Rattle.loss_model.specs.Problem.{value_at}
 use Rattle.fraction_tableau.specs.Next.{IsDualFault}
 use Rattle.fraction_tableau.specs.Ends.{end_number, IsEndedSpill}

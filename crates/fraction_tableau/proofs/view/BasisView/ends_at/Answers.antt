@@ -1,6 +1,6 @@
 use Rattle.std.proofs.lemmas.Result.{err_from_is_err_and}
-use Rattle.exact_algebra.specs.Fraction.{rational}
-use Rattle.walk_rule.specs.WalkSpills.{IsStaySpill}
+use Rattle.rational_laws.specs.Fraction.{rational}
+use Rattle.walk_model.specs.WalkSpills.{IsStaySpill}
 use Rattle.fraction_tableau.specs.declared.ends.End.TheVariants.{Low, High}
 use Rattle.fraction_tableau.specs.Ends.{IsEndedSpill}
 use Rattle.fraction_tableau.specs.Views.{sample_at, rows_at, entries_at}

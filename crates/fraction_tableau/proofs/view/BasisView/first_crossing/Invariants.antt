@@ -1,4 +1,4 @@
-use Rattle.walk_rule.specs.SlopeLaws.{crossing_of}
+use Rattle.walk_model.specs.SlopeLaws.{crossing_of}
 use Rattle.fraction_tableau.specs.Views.{sample_at, rows_at, entries_at}
 use Rattle.fraction_tableau.specs.Crossings.{passes_at, IsFirstOf}
 use Rattle.fraction_tableau.proofs.view.BasisView.first_crossing.Given as goal

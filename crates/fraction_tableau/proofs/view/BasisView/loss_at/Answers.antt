@@ -1,12 +1,12 @@
 use Rattle.std.proofs.Common.{◌≡◌, ◌<◌, length, arith, ap, sym, refl, zero-add}
 use Rattle.std.proofs.lemmas.Result.{err_from_is_err_and}
-use Rattle.exact_algebra.specs.Fraction.{rational}
+use Rattle.rational_laws.specs.Fraction.{rational}
 use Rattle.loss_model.specs.declared.spill.Quantity.TheVariants.{Loss}
 use Rattle.loss_model.specs.Spill.{site_of, loss_products}
 use Rattle.loss_model.proofs.Products.{step_spill}
 use Rattle.loss_model.proofs.Prices.{first_loss, next_loss, whole_loss}
 use Rattle.basis_model.specs.Basis.{coefficient}
-use Rattle.walk_rule.specs.WalkSpills.{of_cost, of_loss}
+use Rattle.walk_model.specs.WalkSpills.{of_cost, of_loss}
 use Rattle.fraction_tableau.specs.Ends.{end_number}
 use Rattle.fraction_tableau.specs.Views.{sample_at, rows_at, entries_at}
 use Rattle.fraction_tableau.proofs.view.BasisView.loss_at.Goals as goal

@@ -1,5 +1,5 @@
 use Rattle.std.proofs.Common.{◌≡◌}
-use Rattle.exact_algebra.specs.Fraction.{rational}
+use Rattle.rational_laws.specs.Fraction.{rational}
 use Rattle.loss_model.specs.Spill.{partial_sum, loss_products}
 use Rattle.basis_model.specs.Basis.{coefficient}
 use Rattle.fraction_tableau.specs.Views.{sample_at, rows_at, entries_at}

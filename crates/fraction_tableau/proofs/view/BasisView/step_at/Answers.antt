@@ -1,7 +1,7 @@
 use Rattle.std.specs.Ordering.{is_lt}
 use Rattle.std.proofs.Common.{ap, ◌∙◌}
 use Rattle.std.proofs.lemmas.Result.{err_from_is_err_and}
-use Rattle.exact_algebra.specs.Fraction.{rational}
+use Rattle.rational_laws.specs.Fraction.{rational}
 use Rattle.fraction_tableau.specs.Lines.{IsOrderSpill}
 use Rattle.fraction_tableau.specs.Views.{sample_at, rows_at, entries_at}
 use Rattle.fraction_tableau.specs.WalkingSteps.{IsStepSpillAt}

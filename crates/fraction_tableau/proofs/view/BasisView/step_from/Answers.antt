@@ -1,8 +1,8 @@
 use Rattle.std.specs.Ordering.{is_lt}
 use Rattle.std.proofs.Common.{ap, ◌∙◌}
 use Rattle.std.proofs.lemmas.Result.{IfOk-weaker, IfErr-weaker}
-use Rattle.exact_algebra.specs.Fraction.{rational}
-use Rattle.walk_rule.specs.WalkSpills.{IsStaySpill}
+use Rattle.rational_laws.specs.Fraction.{rational}
+use Rattle.walk_model.specs.WalkSpills.{IsStaySpill}
 use Rattle.fraction_tableau.specs.Views.{sample_at, rows_at, entries_at}
 use Rattle.fraction_tableau.specs.WalkingSteps.{IsStepSpillAt}
 use Rattle.fraction_tableau.proofs.Crossed.{not_below_by, is_below_by}

@@ -1,6 +1,6 @@
 use Rattle.std.specs.Prelude.{◌≡◌, ℕ, ◌<◌, length}
 use Rattle.loss_model.specs.Problem.{value_at, sample}
-use Rattle.rank_law.specs.Gram.{gram}
+use Rattle.rank_model.specs.Gram.{gram}
 use Rattle.gram_matrix.proofs.matrix.FirstRows.next.Given as goal
 
 abbrev pub invariant-loop-l : goal.invariant-loop-l

@@ -1,5 +1,5 @@
 use Rattle.std.proofs.Common.{◌≡◌, [], length, arith, refl, ap, ◌∙◌}
-use Rattle.exact_algebra.specs.RationalSums.{sum_ℚ}
+use Rattle.rational_laws.specs.RationalSums.{sum_ℚ}
 use Rattle.ratio.specs.Sums.{total}
 use Rattle.ratio.proofs.Totals.{total-none}
 use Rattle.nested_test.specs.Pairs.{pair_of}

@@ -1,6 +1,6 @@
 use Rattle.std.proofs.Common.{◌≡◌, [], length, arith, refl, ap, ap₂, ◌∙◌}
-use Rattle.exact_algebra.specs.Rational.{◌*ℚ◌}
-use Rattle.exact_algebra.specs.RationalSums.{sum_ℚ}
+use Rattle.rational_laws.specs.Rational.{◌*ℚ◌}
+use Rattle.rational_laws.specs.RationalSums.{sum_ℚ}
 use Rattle.ratio.specs.Sums.{total}
 use Rattle.ratio.proofs.Totals.{total-none}
 use Rattle.nested_test.specs.Pairs.{sum_of_row}

@@ -1,5 +1,5 @@
 use Rattle.std.proofs.Common.{◌≡◌}
-use Rattle.exact_algebra.specs.RationalSums.{sum_ℚ}
+use Rattle.rational_laws.specs.RationalSums.{sum_ℚ}
 use Rattle.ratio.specs.Sums.{total}
 use Rattle.nested_test.specs.Pairs.{sum_of_row}
 use Rattle.nested_test.proofs.statistic.Pairs.statistic.Given as goal

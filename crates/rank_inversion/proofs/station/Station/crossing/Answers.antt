@@ -1,6 +1,6 @@
 use Rattle.std.proofs.Common.{subst}
-use Rattle.exact_algebra.specs.Fraction.{rational}
-use Rattle.rank_walk.specs.Crossings.{IsMoving}
+use Rattle.rational_laws.specs.Fraction.{rational}
+use Rattle.rank_walk_model.specs.Crossings.{IsMoving}
 use Rattle.rank_steps.specs.Ways.{way_of}
 use Rattle.rank_inversion.proofs.StationLaws.{crossing_none, crossing_some}
 use Rattle.rank_inversion.proofs.station.Station.crossing.Goals as goal

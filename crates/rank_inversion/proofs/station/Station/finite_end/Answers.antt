@@ -1,6 +1,6 @@
 use Rattle.std.proofs.Common.{slice_index}
 use Rattle.std.proofs.lemmas.Result.{err_from_is_err_and}
-use Rattle.exact_algebra.proofs.Lists.{contains_item}
+use Rattle.rational_laws.proofs.Lists.{contains_item}
 use Rattle.loss_model.specs.Spill.{AtSome}
 use Rattle.rank_inversion.specs.Nexts.{IsSpillHere, IsWeighingSpill}
 use Rattle.rank_inversion.proofs.Operations.{short_weaker}

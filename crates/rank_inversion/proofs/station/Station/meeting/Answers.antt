@@ -1,6 +1,6 @@
 use Rattle.std.proofs.Common.{refl, sym, ap, ◌∙◌}
 use Rattle.std.proofs.lemmas.Result.{err_from_is_err_and}
-use Rattle.rank_walk.specs.Crossings.{bound_towards}
+use Rattle.rank_walk_model.specs.Crossings.{bound_towards}
 use Rattle.rank_steps.specs.Ways.{way_of}
 use Rattle.rank_inversion.specs.Courses.{tau_of}
 use Rattle.rank_inversion.specs.Stations.{sample_at, entries_at}

@@ -1,6 +1,6 @@
 use Rattle.std.specs.Prelude.{◌≡◌, ℕ, ◌<◌, length}
 use Rattle.loss_model.specs.Problem.{value_at}
-use Rattle.rank_walk.specs.RankWalks.{ray}
+use Rattle.rank_walk_model.specs.RankWalks.{ray}
 use Rattle.rank_steps.specs.Ways.{way_of}
 use Rattle.rank_inversion.specs.Stations.{entries_at}
 use Rattle.rank_inversion.proofs.station.Station.ray.Given as goal

@@ -1,5 +1,5 @@
 -- A row that moves has a coordinate.
-use Rattle.pivot_rule.proofs.Passing.{mover_some}
+use Rattle.pivot_model.proofs.Passing.{mover_some}
 use Rattle.tableau_model.specs.Places.{at_of, sample_of}
 use Rattle.tableau.specs.Bodies.{place_of}
 use Rattle.tableau.proofs.bodies.Tableau.exchange_first.Goals as goal

@@ -1,11 +1,11 @@
 use Rattle.std.proofs.Common.{length, refl, sym, ap, subst, ◌∙◌}
 use Rattle.std.proofs.lemmas.List.{length_push}
-use Rattle.exact_algebra.specs.Fraction.{rational}
+use Rattle.rational_laws.specs.Fraction.{rational}
 use Rattle.loss_model.specs.declared.process.Exchange.{Exchange}
-use Rattle.pivot_rule.proofs.Passing.{mover_some}
+use Rattle.pivot_model.proofs.Passing.{mover_some}
 use Rattle.loss_model.specs.Problem.{sample}
-use Rattle.pivot_rule.specs.Steps.{IsSolvingStep}
-use Rattle.pivot_rule.specs.Trails.{IsSolvingTrail}
+use Rattle.pivot_model.specs.Steps.{IsSolvingStep}
+use Rattle.pivot_model.specs.Trails.{IsSolvingTrail}
 use Rattle.tableau_model.specs.Places.{Task, at_of, sample_of}
 use Rattle.tableau_model.specs.Questions.{solving}
 use Rattle.tableau.specs.Bodies.{place_of}

@@ -1,5 +1,5 @@
 use Rattle.std.proofs.Common.{◌++◌, ap, ap₂, map, take_all, ◌∙◌}
-use Rattle.exact_algebra.proofs.Lists.{mapped_more}
+use Rattle.rational_laws.proofs.Lists.{mapped_more}
 use Rattle.frac_core.specs.Values.{exact}
 use Rattle.tv_penalty.specs.Smoothings.{knot_entry, with_columns}
 use Rattle.tv_penalty.proofs.parts.Part.put_entries.Goals as goal

@@ -1,7 +1,7 @@
 -- A residual that isn't 0 tells the side of a row outside the basis.
 use Rattle.std.proofs.Common.{rules, ◌≡◌, ◌≢◌, ◌≤ℤ◌, ℤ, length, slice_index, pos, sym, ap, ◌∙◌}
-use Rattle.exact_algebra.specs.Rational.{whole}
-use Rattle.exact_algebra.specs.Order.{cmp_ℚ}
+use Rattle.rational_laws.specs.Rational.{whole}
+use Rattle.rational_laws.specs.Order.{cmp_ℚ}
 use Rattle.basis_model.specs.Perturbed.{side_of}
 use Rattle.basis_model.proofs.Signs.{side-residual}
 use Rattle.basis_model.specs.Basis.{outside_row}

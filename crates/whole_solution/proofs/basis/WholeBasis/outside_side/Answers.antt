@@ -1,13 +1,13 @@
 -- By the residual, or where that is 0 by the perturbed one.
 use Rattle.std.proofs.Common.{rules, ◌≡◌, ◌≢◌, ◌<◌, ◌≤ℤ◌, ℕ, ℤ, length, slice_index, pos, to_z, of_z, sym, ap, ◌∙◌}
 use mir.Syntax.{w128}
-use Rattle.exact_algebra.specs.Rational.{whole}
-use Rattle.exact_algebra.specs.Order.{cmp_ℚ}
-use Rattle.exact_matrices.specs.Matrices.{coordinate}
+use Rattle.rational_laws.specs.Rational.{whole}
+use Rattle.rational_laws.specs.Order.{cmp_ℚ}
+use Rattle.rational_laws.specs.Matrices.{coordinate}
 use Rattle.basis_model.specs.Perturbed.{side_of}
 use Rattle.basis_model.proofs.Signs.{side-residual}
 use Rattle.basis_model.specs.Basis.{outside_row}
-use Rattle.exact_algebra.specs.WholeLists.{whole_at}
+use Rattle.rational_laws.specs.WholeLists.{whole_at}
 use Rattle.whole_inverse.specs.Shares.{share, share_at}
 use Rattle.whole_inverse.specs.Squares.{inverse_of}
 use Rattle.whole_rows.specs.Wholes.{sample_of_rows}

@@ -2,9 +2,9 @@
 use Rattle.std.proofs.Common.{rules, ◌≡◌, length, to_z, of_z, sym, ap, ap₂, ◌∙◌}
 use mir.Syntax.{w64, w128}
 use Rattle.std.proofs.lemmas.Result.{IfOk-weaker}
-use Rattle.exact_algebra.specs.Rational.{◌-ℚ◌, ◌*ℚ◌, whole}
-use Rattle.exact_algebra.specs.RationalSums.{sum_ℚ}
-use Rattle.exact_algebra.specs.WholeLists.{whole_at}
+use Rattle.rational_laws.specs.Rational.{◌-ℚ◌, ◌*ℚ◌, whole}
+use Rattle.rational_laws.specs.RationalSums.{sum_ℚ}
+use Rattle.rational_laws.specs.WholeLists.{whole_at}
 use Rattle.whole_inverse.specs.Shares.{share, share_at}
 use Rattle.whole_rows.specs.declared.rows.WholeRow.{WholeRow}
 use Rattle.whole_rows.specs.Wholes.{of_whole}

@@ -1,7 +1,7 @@
 -- Of a row of the basis, and of another.
 use Rattle.std.proofs.Common.{◌≡◌, length, slice_index, true, false, sym, subst, ◌∙◌}
 use Rattle.std.proofs.lemmas.Result.{IfOk-weaker}
-use Rattle.exact_matrices.specs.Selections.{is_among}
+use Rattle.rational_laws.specs.Selections.{is_among}
 use Rattle.whole_inverse.specs.Squares.{inverse_of}
 use Rattle.whole_rows.specs.Wholes.{sample_of_rows}
 use Rattle.whole_solution.proofs.Made.{basic_by, outside_by, apart_from}

@@ -1,8 +1,8 @@
 -- A row more, and at the end those of the basis.
 use Rattle.std.proofs.Common.{rules, ◌≡◌, ◌++◌, ◌∷◌, [], false, length, slice_index, get_or, pos, to_z, of_z, arith, ◌∙◌}
 use mir.Syntax.{w128}
-use Rattle.exact_algebra.proofs.Lists.{length_pushed}
-use Rattle.exact_matrices.specs.Selections.{is_among}
+use Rattle.rational_laws.proofs.Lists.{length_pushed}
+use Rattle.rational_laws.specs.Selections.{is_among}
 use Rattle.basis_model.specs.Basis.{side_at}
 use Rattle.whole_inverse.specs.Squares.{inverse_of}
 use Rattle.whole_inverse.proofs.Lists.{share_read}

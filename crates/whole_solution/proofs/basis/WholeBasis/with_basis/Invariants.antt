@@ -1,6 +1,6 @@
 -- The rows of the basis that were put.
 use Rattle.std.specs.Prelude.{◌≡◌, ℕ, length, slice_index, if◌then◌else◌}
-use Rattle.exact_matrices.specs.Selections.{is_among}
+use Rattle.rational_laws.specs.Selections.{is_among}
 use Rattle.loss_model.specs.declared.vertex.Side.TheVariants.{Basic}
 use Rattle.whole_solution.specs.Standing.{side_in}
 use Rattle.whole_solution.proofs.basis.WholeBasis.with_basis.Given as goal

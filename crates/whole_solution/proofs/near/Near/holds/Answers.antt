@@ -1,6 +1,6 @@
 -- A row that is found has a place.
 use Rattle.std.proofs.Common.{length, slice_index, sym, ◌∙◌}
-use Rattle.pivot_rule.proofs.Among.{among_place}
+use Rattle.pivot_model.proofs.Among.{among_place}
 use Rattle.whole_solution.proofs.near.Near.holds.Goals as goal
 
 pub returns : goal.returns

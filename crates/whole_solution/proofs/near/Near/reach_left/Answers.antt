@@ -1,9 +1,9 @@
 -- What all residuals can have moved, and the reach, are within the distance.
 use Rattle.std.proofs.Common.{rules, ◌≡◌, ◌≤◌, ◌+◌, ◌*◌, length, pos, unsigned_abs, arith, refl, ap, subst, ◌∙◌}
 use Rattle.std.proofs.lemmas.Int.{ints}
-use Rattle.exact_algebra.specs.Rational.{◌+ℚ◌, ◌≤ℚ◌, whole}
-use Rattle.exact_algebra.proofs.RationalLaws.{whole-add}
-use Rattle.exact_algebra.proofs.WholeNumbers.{whole-le}
+use Rattle.rational_laws.specs.Rational.{◌+ℚ◌, ◌≤ℚ◌, whole}
+use Rattle.rational_laws.proofs.RationalLaws.{whole-add}
+use Rattle.rational_laws.proofs.WholeNumbers.{whole-le}
 use Rattle.wide_int.specs.Numbers.{joined}
 use Rattle.whole_solution.specs.Far.{moves}
 use Rattle.whole_solution.proofs.Moves.{room_left}

@@ -2,7 +2,7 @@
 use Rattle.std.proofs.Common.{rules, ◌≡◌, ◌+◌, ◌*◌, ◌+ℤ◌, ◌*ℤ◌, get_or, length, pos, unsigned_abs, to_z, of_z, sym, ap, subst, ◌∙◌, arith}
 use Rattle.std.specs.Prelude.{slice_index}
 use mir.Syntax.{w128}
-use Rattle.exact_algebra.specs.Rational.{whole}
+use Rattle.rational_laws.specs.Rational.{whole}
 use Rattle.frac_core.proofs.Signs.{unsigned_abs-signed}
 use Rattle.wide_int.specs.Numbers.{joined, number_of}
 use Rattle.whole_solution.specs.Far.{move_of, moves}

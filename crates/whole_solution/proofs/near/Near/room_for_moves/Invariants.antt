@@ -1,5 +1,5 @@
 use Rattle.std.proofs.Common.{◌≡◌, get_or, pos}
-use Rattle.exact_algebra.specs.Rational.{whole}
+use Rattle.rational_laws.specs.Rational.{whole}
 use Rattle.wide_int.specs.Numbers.{joined, number_of}
 use Rattle.whole_solution.specs.Far.{move_of}
 use Rattle.whole_solution.specs.Ranges.{at_halves, at_middles}

@@ -1,8 +1,8 @@
 -- A column more.
 use Rattle.std.proofs.Common.{rules, ◌≡◌, ◌++◌, ◌∷◌, [], length, to_z, of_z}
 use mir.Syntax.{w64}
-use Rattle.exact_algebra.proofs.Lists.{length_pushed}
-use Rattle.exact_algebra.specs.WholeLists.{whole_at}
+use Rattle.rational_laws.proofs.Lists.{length_pushed}
+use Rattle.rational_laws.specs.WholeLists.{whole_at}
 use Rattle.whole_rows.specs.Wholes.{of_whole}
 use Rattle.whole_solution.proofs.Entries.{column_more}
 use Rattle.whole_solution.proofs.ranges.Ranges.of.Goals as goal

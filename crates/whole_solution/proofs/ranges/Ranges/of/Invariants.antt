@@ -1,7 +1,7 @@
 use Rattle.std.proofs.Common.{◌≡◌, ℕ, ◌<◌, length}
-use Rattle.exact_algebra.specs.Rational.{◌-ℚ◌, ◌≤ℚ◌}
+use Rattle.rational_laws.specs.Rational.{◌-ℚ◌, ◌≤ℚ◌}
 use Rattle.loss_model.specs.Spill.{abs_ℚ}
-use Rattle.exact_algebra.specs.WholeLists.{whole_at}
+use Rattle.rational_laws.specs.WholeLists.{whole_at}
 use Rattle.whole_rows.specs.Wholes.{of_whole}
 use Rattle.whole_solution.specs.Ranges.{half_at}
 use Rattle.whole_solution.proofs.ranges.Ranges.of.Given as goal

@@ -1,7 +1,7 @@
 -- A 0 more.
 use Rattle.std.proofs.Common.{rules, ◌≡◌, ◌++◌, ◌∷◌, [], pos, refl}
-use Rattle.exact_algebra.specs.Rational.{whole}
-use Rattle.exact_algebra.proofs.WholeLists.{whole_pushed}
+use Rattle.rational_laws.specs.Rational.{whole}
+use Rattle.rational_laws.proofs.WholeLists.{whole_pushed}
 use Rattle.whole_inverse.proofs.Lists.{length_pushed}
 use Rattle.whole_solution.proofs.totals.Totals.none.Goals as goal
 

@@ -1,6 +1,6 @@
 use Rattle.std.proofs.Common.{◌≡◌, ℕ, ◌<◌, length, pos}
-use Rattle.exact_algebra.specs.Rational.{whole}
-use Rattle.exact_algebra.specs.WholeLists.{whole_at}
+use Rattle.rational_laws.specs.Rational.{whole}
+use Rattle.rational_laws.specs.WholeLists.{whole_at}
 use Rattle.whole_solution.proofs.totals.Totals.none.Given as goal
 
 abbrev pub invariant-loop : goal.invariant-loop

@@ -1,8 +1,8 @@
 -- The numbers of the row times the change of its bound.
 use Rattle.std.proofs.Common.{rules, ◌≡◌, to_z, of_z, ◌+ℤ◌, ◌*ℤ◌, pos, refl, sym, ap, ◌∙◌}
 use mir.Syntax.{w128}
-use Rattle.exact_algebra.specs.Rational.{◌+ℚ◌, ◌-ℚ◌, ◌*ℚ◌, whole}
-use Rattle.exact_algebra.specs.WholeLists.{whole_at}
+use Rattle.rational_laws.specs.Rational.{◌+ℚ◌, ◌-ℚ◌, ◌*ℚ◌, whole}
+use Rattle.rational_laws.specs.WholeLists.{whole_at}
 use Rattle.whole_solution.specs.Weighing.{bound_of}
 use Rattle.whole_solution.proofs.Moved.{raised_whole, raised_none}
 use Rattle.whole_solution.proofs.totals.Totals.turn.Goals as goal

@@ -1,8 +1,8 @@
 -- The coordinate at the position, on the side of the row.
 use Rattle.std.proofs.Common.{rules, ◌≡◌, length, to_z, of_z, ap, ◌∙◌}
 use mir.Syntax.{w128}
-use Rattle.exact_matrices.specs.Matrices.{coordinate}
-use Rattle.exact_algebra.specs.WholeLists.{whole_at}
+use Rattle.rational_laws.specs.Matrices.{coordinate}
+use Rattle.rational_laws.specs.WholeLists.{whole_at}
 use Rattle.whole_inverse.specs.Shares.{share}
 use Rattle.whole_steps.specs.Lines.{inverse_at, over_of}
 use Rattle.whole_steps.specs.Ties.{entry_on}

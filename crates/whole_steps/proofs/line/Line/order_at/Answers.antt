@@ -1,6 +1,6 @@
 -- Both entries are made.
 use Rattle.std.proofs.Common.{◌∙◌, ap₂}
-use Rattle.exact_algebra.specs.Order.{cmp_ℚ}
+use Rattle.rational_laws.specs.Order.{cmp_ℚ}
 use Rattle.whole_steps.proofs.line.Line.order_at.Goals as goal
 
 pub returns : goal.returns

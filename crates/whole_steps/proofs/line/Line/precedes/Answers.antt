@@ -1,7 +1,7 @@
 -- By the cross products.
 use Rattle.std.proofs.Common.{rules, ◌≡◌, ◌*◌, true, false, sym, ap₂, ◌∙◌}
 use Rattle.std.specs.Ordering.{is_eq, nat_cmp}
-use Rattle.exact_algebra.proofs.Comparisons.{is_equal}
+use Rattle.rational_laws.proofs.Comparisons.{is_equal}
 use Rattle.whole_steps.proofs.Ties.{first_decides}
 use Rattle.whole_steps.proofs.line.Line.precedes.Goals as goal
 

@@ -1,9 +1,9 @@
 -- The row that was read, times the column.
 use Rattle.std.proofs.Common.{rules, ◌≡◌, length, to_z, of_z, sym, ap, ◌∙◌}
 use mir.Syntax.{w128}
-use Rattle.exact_algebra.specs.Rational.{◌*ℚ◌}
-use Rattle.exact_algebra.specs.RationalSums.{sum_ℚ}
-use Rattle.exact_algebra.specs.WholeLists.{whole_at}
+use Rattle.rational_laws.specs.Rational.{◌*ℚ◌}
+use Rattle.rational_laws.specs.RationalSums.{sum_ℚ}
+use Rattle.rational_laws.specs.WholeLists.{whole_at}
 use Rattle.whole_inverse.specs.Shares.{share, share_at}
 use Rattle.whole_steps.specs.Lines.{over_of}
 use Rattle.whole_steps.proofs.Coordinates.{column_size, row_coordinate}

@@ -1,6 +1,6 @@
 -- By the bound of the coordinates.
 use Rattle.std.proofs.Common.{rules, ◌≡◌, length, get_or, pos, unsigned_abs}
-use Rattle.exact_algebra.specs.Rational.{whole}
+use Rattle.rational_laws.specs.Rational.{whole}
 use Rattle.whole_solution.specs.Ranges.{most_of_products}
 use Rattle.whole_steps.specs.Lines.{over_of}
 use Rattle.whole_steps.proofs.FarRows.{far_after}

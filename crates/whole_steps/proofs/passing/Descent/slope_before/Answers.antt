@@ -1,7 +1,7 @@
 -- Row by row.
 use Rattle.std.proofs.Common.{rules, ◌≡◌, length, to_z, of_z, arith}
 use mir.Syntax.{w128}
-use Rattle.exact_algebra.specs.Fraction.{rational}
+use Rattle.rational_laws.specs.Fraction.{rational}
 use Rattle.whole_steps.specs.Passing.{number_value}
 use Rattle.whole_steps.proofs.Marks.{unmarked_left}
 use Rattle.whole_steps.proofs.Passed.{passed_none, sum_none, sum_more, sum_all}

@@ -1,7 +1,7 @@
 use Rattle.std.proofs.Common.{◌≡◌}
-use Rattle.exact_algebra.specs.Fraction.{rational}
-use Rattle.exact_algebra.specs.Rational.{◌+ℚ◌}
-use Rattle.exact_algebra.specs.RationalSums.{sum_ℚ}
+use Rattle.rational_laws.specs.Fraction.{rational}
+use Rattle.rational_laws.specs.Rational.{◌+ℚ◌}
+use Rattle.rational_laws.specs.RationalSums.{sum_ℚ}
 use Rattle.whole_steps.specs.Passing.{number_value, first_slope, passed_by}
 use Rattle.whole_steps.proofs.passing.Descent.slope_before.Given as goal
 

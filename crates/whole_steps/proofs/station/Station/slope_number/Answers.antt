@@ -1,7 +1,7 @@
 -- The cost less the dual value.
 use Rattle.std.proofs.Common.{rules, ◌≡◌, to_z, of_z, ap, ap₂, ◌∙◌}
 use mir.Syntax.{w128}
-use Rattle.exact_algebra.specs.Rational.{◌-ℚ◌, whole}
+use Rattle.rational_laws.specs.Rational.{◌-ℚ◌, whole}
 use Rattle.whole_inverse.specs.Shares.{share}
 use Rattle.whole_steps.specs.Lines.{turned_by}
 use Rattle.whole_steps.specs.Stations.{model, at_of, inverse_at, over_of}

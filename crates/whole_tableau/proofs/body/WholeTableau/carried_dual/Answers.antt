@@ -1,8 +1,8 @@
 -- The value of the last segment.
 use Rattle.std.proofs.Common.{slice_index, ap, ◌∙◌}
-use Rattle.exact_algebra.specs.Fraction.{rational}
+use Rattle.rational_laws.specs.Fraction.{rational}
 use Rattle.loss_model.specs.Problem.{sample}
-use Rattle.pivot_rule.specs.Duals.{dual}
+use Rattle.pivot_model.specs.Duals.{dual}
 use Rattle.whole_tableau.specs.Kept.{place}
 use Rattle.whole_tableau.proofs.body.WholeTableau.carried_dual.Goals as goal
 

@@ -2,9 +2,9 @@
 use Rattle.std.proofs.Common.{rules, ◌≡◌, ◌+◌, ◌++◌, ◌∷◌, [], slice_index, ap, ◌∙◌}
 use Rattle.std.proofs.lemmas.List.{length_push}
 use Rattle.whole_rows.proofs.ValueLists.{value_pushed}
-use Rattle.exact_algebra.specs.Fraction.{rational}
+use Rattle.rational_laws.specs.Fraction.{rational}
 use Rattle.loss_model.specs.Problem.{sample}
-use Rattle.pivot_rule.specs.Duals.{dual}
+use Rattle.pivot_model.specs.Duals.{dual}
 use Rattle.whole_tableau.specs.Kept.{place}
 use Rattle.whole_tableau.proofs.body.WholeTableau.carried_end.Goals as goal
 

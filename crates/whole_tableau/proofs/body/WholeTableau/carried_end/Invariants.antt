@@ -1,7 +1,7 @@
 use Rattle.std.proofs.Common.{◌≡◌, ℕ, ◌<◌, length, slice_index}
-use Rattle.exact_algebra.specs.Fraction.{rational}
+use Rattle.rational_laws.specs.Fraction.{rational}
 use Rattle.loss_model.specs.Problem.{sample, value_at}
-use Rattle.pivot_rule.specs.Duals.{dual}
+use Rattle.pivot_model.specs.Duals.{dual}
 use Rattle.whole_tableau.specs.Kept.{place}
 use Rattle.whole_tableau.proofs.body.WholeTableau.carried_end.Given as goal
 

@@ -1,11 +1,11 @@
 -- The numerators of both parts at the row's position, read at theta.
 use Rattle.std.proofs.Common.{rules, ◌≡◌, ◌<◌, length, slice_index, get_or, pos, arith, sym, ap, ap₂, ◌∙◌}
-use Rattle.exact_algebra.specs.Fraction.{rational}
-use Rattle.exact_algebra.specs.Rational.{◌+ℚ◌, ◌*ℚ◌, inverse}
-use Rattle.exact_algebra.proofs.Signs.{positive_nonzero}
+use Rattle.rational_laws.specs.Fraction.{rational}
+use Rattle.rational_laws.specs.Rational.{◌+ℚ◌, ◌*ℚ◌, inverse}
+use Rattle.rational_laws.proofs.Signs.{positive_nonzero}
 use Rattle.loss_model.specs.Problem.{sample}
-use Rattle.pivot_rule.specs.Duals.{dual}
-use Rattle.pivot_rule.proofs.Sides.{dual_at}
+use Rattle.pivot_model.specs.Duals.{dual}
+use Rattle.pivot_model.proofs.Sides.{dual_at}
 use Rattle.wide_int.specs.Numbers.{number_of}
 use Rattle.whole_inverse.specs.Shares.{share}
 use Rattle.whole_inverse.proofs.Lists.{share_read}

@@ -1,7 +1,7 @@
 -- The row that enters has a coordinate, and the joint is that of the step.
 use Rattle.std.proofs.Common.{List, ℕ, slice_index, refl, ap, ◌∙◌}
 use Rattle.loss_model.specs.Problem.{sample}
-use Rattle.pivot_rule.proofs.Passing.{mover_some}
+use Rattle.pivot_model.proofs.Passing.{mover_some}
 use Rattle.whole_tableau.specs.Kept.{place}
 use Rattle.whole_tableau.proofs.body.WholeTableau.next_past.Goals as goal
 

@@ -1,5 +1,0 @@
-pub mod Terms
-pub mod Matrices
-pub mod Exchange
-pub mod Spans
-pub mod Selections

@@ -1,5 +1,0 @@
-use Rattle.pivot_bound.proofs.Chosen as law
-use Rattle.pivot_bound.proofs.laws.at_most_choose.Goals as goal
-
-pub returns : goal.returns
-returns c = law.at_most_choose

@@ -1,2 +1,0 @@
-pub mod ScalingLaws
-pub mod StepLaws
