@@ -8,7 +8,7 @@ use Rattle.rational_laws.specs.Rational.{◌+ℚ◌, ◌-ℚ◌, ◌*ℚ◌, who
 use Rattle.rational_laws.specs.RationalSums.{sum_ℚ}
 use Rattle.rational_laws.proofs.RationalLaws.{whole-mul, ring_ℚ}
 use Rattle.rational_laws.proofs.RationalSumLaws.{sum_ℚ-next, sum_ℚ-same, sum_ℚ-scale}
-use Rattle.rational_laws.proofs.Signs.{whole_product}
+use Rattle.rational_laws.proofs.Signs.{whole_product, some_product}
 use Rattle.rational_laws.proofs.Lists.{item_there}
 use Rattle.rational_laws.specs.Terms.{delta}
 use Rattle.rational_laws.proofs.TermLaws.{sum_ℚ-delta}
@@ -28,7 +28,7 @@ use Rattle.cert_sums.specs.Tables.{IsTable}
 use Rattle.cert_sums.specs.Duals.{IsDuals}
 use Rattle.cert_sums.specs.Ranks.{left_at}
 use Rattle.cert_sums.proofs.RowsOf.{row_of, number_of}
-use Rattle.cert_sums.proofs.Follow.{whole-total, positive_product}
+use Rattle.cert_sums.proofs.Follow.{whole-total}
 
 module _ (p : Problem Frac128) (t : Table) (h : IsTable p t) (factors : List Frac128) (j : ℕ) (same : length factors ≡ p.columns) (within : j < length factors) (scale : ℕ) (numbers : List ℤ)
     (size : length numbers ≡ length factors + 1)
@@ -91,7 +91,7 @@ module _ (p : Problem Frac128) (t : Table) (h : IsTable p t) (factors : List Fra
       → IsDuals p t (λ i. (sample value128 p).up1 i *ℚ projected (sample value128 p) j (value_at value128 factors) i) d
   left_duals d some product sized values =
       let many = h.size in
-      let positive = positive_product (scale * t.scale) t.cost_scale (positive_product scale t.scale some h.scale) h.cost_scale in
+      let positive = some_product (scale * t.scale) t.cost_scale (some_product scale t.scale some h.scale) h.cost_scale in
       record {
         scale = omega (arith, positive, product);
         size = sized ∙ many;

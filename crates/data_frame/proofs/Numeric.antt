@@ -3,6 +3,7 @@ use Rattle.std.proofs.Common.{◌≡◌, ◌∙◌, ◌<◌, ◌+◌, ◌-◌, �
 use Rattle.std.proofs.Common.{None, Result, Ok, Err, is_some, length, drop, take, get_or, map, refl, sym, ap, add-one, arith, nat_le, unsigned_abs, if◌then◌else◌}
 use Rattle.std.specs.List.{list_all, position_from}
 use Rattle.std.specs.Result.{is_ok}
+use Rattle.std.proofs.lemmas.Bool.{and_parts}
 use Rattle.rational_laws.specs.Fraction.{Fraction, rational}
 use Rattle.rational_laws.specs.Rational.{ℚ}
 use Rattle.frac_core.specs.NumberText.{in_range, is_number_text, number_of, written}
@@ -79,39 +80,31 @@ holds_not_wide cell h = go (number_in cell) h
     go (Ok x) h = refl
     go (Err fault) h = absurd (cc h)
 
-first_true : (a b : Bool) → (a && b) ≡ true → a ≡ true
-first_true true b h = refl
-first_true false b h = h
-
-second_true : (a b : Bool) → (a && b) ≡ true → b ≡ true
-second_true true b h = h
-second_true false b h = absurd (cc h)
-
 all_fit : (cells : List Text) → list_all holds_number cells ≡ true → list_all is_numeric cells ≡ true
 all_fit [] h = refl
 all_fit (c ∷ cells) h =
-    rw (holds_fits c (first_true (holds_number c) (list_all holds_number cells) h)) (all_fit cells (second_true (holds_number c) (list_all holds_number cells) h))
+    rw (holds_fits c (and_parts (holds_number c) (list_all holds_number cells) h).0) (all_fit cells (and_parts (holds_number c) (list_all holds_number cells) h).1)
 
 none_wide : (n : ℕ) (cells : List Text) → list_all holds_number cells ≡ true → position_from is_too_wide n cells ≡ None
 none_wide n [] h = refl
 none_wide n (c ∷ cells) h =
-    rw (holds_not_wide c (first_true (holds_number c) (list_all holds_number cells) h)) (none_wide (n + 1) cells (second_true (holds_number c) (list_all holds_number cells) h))
+    rw (holds_not_wide c (and_parts (holds_number c) (list_all holds_number cells) h).0) (none_wide (n + 1) cells (and_parts (holds_number c) (list_all holds_number cells) h).1)
 
 first_wide : (n : ℕ) (cells : List Text) (i : ℕ) → list_all holds_number (take i cells) ≡ true → i < length cells
     → is_too_wide (get_or cells i []) ≡ true → position_from is_too_wide n cells ≡ Some (n + i)
 first_wide n [] i h lt e = absurd (omega arith)
 first_wide n (c ∷ cells) zero h lt e = rw e (ap (λ (k : ℕ). Some k) (omega arith))
 first_wide n (c ∷ cells) (suc i) h lt e =
-    rw (holds_not_wide c (first_true (holds_number c) (list_all holds_number (take i cells)) h))
-    (first_wide (n + 1) cells i (second_true (holds_number c) (list_all holds_number (take i cells)) h) (omega arith) e ∙ ap (λ (k : ℕ). Some k) (omega arith))
+    rw (holds_not_wide c (and_parts (holds_number c) (list_all holds_number (take i cells)) h).0)
+    (first_wide (n + 1) cells i (and_parts (holds_number c) (list_all holds_number (take i cells)) h).1 (omega arith) e ∙ ap (λ (k : ℕ). Some k) (omega arith))
 
 rest_decides : (cells : List Text) (i : ℕ) → list_all holds_number (take i cells) ≡ true → i < length cells
     → is_numeric (get_or cells i []) ≡ true → list_all is_numeric cells ≡ list_all is_numeric (drop (suc i) cells)
 rest_decides [] i h lt e = absurd (omega arith)
 rest_decides (c ∷ cells) zero h lt e = rw e refl
 rest_decides (c ∷ cells) (suc i) h lt e =
-    rw (holds_fits c (first_true (holds_number c) (list_all holds_number (take i cells)) h))
-    (rest_decides cells i (second_true (holds_number c) (list_all holds_number (take i cells)) h) (omega arith) e)
+    rw (holds_fits c (and_parts (holds_number c) (list_all holds_number (take i cells)) h).0)
+    (rest_decides cells i (and_parts (holds_number c) (list_all holds_number (take i cells)) h).1 (omega arith) e)
 
 -- each cell holds a number, or is missing
 pub number_column : (cells : List Text) (values : List (Option ℚ)) → list_all holds_number cells ≡ true

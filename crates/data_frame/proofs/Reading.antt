@@ -1,6 +1,6 @@
 -- From the clauses of `csv`'s reader to the records that are left.
-use Rattle.std.proofs.Common.{◌≡◌, ◌∙◌, ℕ, Bool, true, false, List, [], ◌∷◌, Option, Some, None, ap, refl, inl, inr, unwrap_or, ◌&&◌, ◌≤◌, length, arith, if◌then◌else◌}
-use Rattle.std.proofs.lemmas.Bool.{cases_Bool}
+use Rattle.std.proofs.Common.{◌≡◌, ◌∙◌, ℕ, Bool, true, false, List, [], ◌∷◌, Option, Some, None, ap, refl, inl, inr, unwrap_or, ◌≤◌, length, arith, if◌then◌else◌}
+use Rattle.std.proofs.lemmas.Bool.{cases_Bool, and_parts}
 use Rattle.std.proofs.lemmas.Str.{IsUtf8-from_is_utf8, is_utf8-from_IsUtf8}
 use Rattle.std.specs.Str.{is_utf8}
 use Rattle.std.specs.List.{list_all}
@@ -44,18 +44,10 @@ unfolding AllText are_text
 text_all [] h = refl
 text_all (f ∷ fs) h = rw (is_utf8-from_IsUtf8 f h.0, text_all fs h.1) refl
 
-first_true : (a b : Bool) → (a && b) ≡ true → a ≡ true
-first_true true b h = refl
-first_true false b h = h
-
-second_true : (a b : Bool) → (a && b) ≡ true → b ≡ true
-second_true true b h = h
-second_true false b h = absurd (cc h)
-
 all_text : (row : Row) → are_text row ≡ true → AllText row
 unfolding AllText are_text
 all_text [] h = tt
-all_text (f ∷ fs) h = (IsUtf8-from_is_utf8 f (first_true (is_utf8 f) (list_all is_utf8 fs) h), all_text fs (second_true (is_utf8 f) (list_all is_utf8 fs) h))
+all_text (f ∷ fs) h = (IsUtf8-from_is_utf8 f (and_parts (is_utf8 f) (list_all is_utf8 fs) h).0, all_text fs (and_parts (is_utf8 f) (list_all is_utf8 fs) h).1)
 
 not_text : (row : Row) → ¬ (AllText row) → are_text row ≡ false
 not_text row refuses = elim (cases_Bool (are_text row)) [ inl whole ↦ absurd (refuses (all_text row whole)) | inr bad ↦ bad ]

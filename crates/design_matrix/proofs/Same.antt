@@ -1,6 +1,7 @@
 -- Lists of variables that are the same.
 use Rattle.std.proofs.Common.{◌≡◌, ◌<◌, ◌≤◌, ◌&&◌, ℕ, suc, ◌+◌, ◌-◌, Bool, true, false, List, [], ◌∷◌, ◌++◌, length, take, drop, get_or, refl, sym, ap, ◌∙◌, arith, add-one, length-take-le, length-append, length-drop}
 use Rattle.std.proofs.Math.Seq.{drop-cons}
+use Rattle.std.proofs.lemmas.Bool.{and_parts}
 use Rattle.formula_parser.specs.declared.formula.Variable.{Variable}
 use Rattle.design_matrix.specs.CodedVariable.{same_variable, same_variables, without}
 
@@ -8,15 +9,11 @@ and_assoc : (a b c : Bool) → (a && (b && c)) ≡ ((a && b) && c)
 and_assoc true b c = refl
 and_assoc false b c = refl
 
-and_right : (a b : Bool) → (a && b) ≡ true → b ≡ true
-and_right true b e = e
-and_right false b e = absurd (cc e)
-
 same_length : (ls rs : List Variable) → same_variables ls rs ≡ true → length ls ≡ length rs
 same_length [] [] e = refl
 same_length [] (w ∷ ws) e = absurd (cc e)
 same_length (v ∷ vs) [] e = absurd (cc e)
-same_length (v ∷ vs) (w ∷ ws) e = ap suc (same_length vs ws (and_right (same_variable v w) (same_variables vs ws) e))
+same_length (v ∷ vs) (w ∷ ws) e = ap suc (same_length vs ws (and_parts (same_variable v w) (same_variables vs ws) e).1)
 
 pub apart : (ls rs : List Variable) → (length ls ≡ length rs → ⊥) → false ≡ same_variables ls rs
 apart ls rs h = at (same_variables ls rs) refl

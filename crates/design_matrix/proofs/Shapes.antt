@@ -1,5 +1,5 @@
 -- What the rows and columns of a design are like whose table and formula have no fault.
-use Rattle.std.proofs.Common.{◌≡◌, ◌==◌, ◌&&◌, ◌≤◌, ℕ, zero, suc, ◌+◌, ◌*◌, not, Bool, true, false, cond, List, [], ◌∷◌, Option}
+use Rattle.std.proofs.Common.{◌≡◌, ◌==◌, ◌&&◌, ◌≤◌, ℕ, zero, suc, ◌+◌, not, Bool, true, false, cond, List, [], ◌∷◌, Option}
 use Rattle.std.proofs.Common.{Some, None, All, filter, length, map, option_and_then, nat_lt, get_or, pos, arith, refl, sym, ap, subst, ◌∙◌, length-append}
 use Rattle.std.specs.List.{flat_map, range_with_len}
 use Rattle.std.specs.Option.{option_or}
@@ -12,6 +12,7 @@ use Rattle.std.proofs.lemmas.List.Elements.{All-cons, All-filter, All-head, All-
 use Rattle.rational_laws.specs.Order.{cmp_ℚ}
 use Rattle.rational_laws.proofs.OrderLaws.{cmp_ℚ_swap}
 use Rattle.rational_laws.specs.Rational.{whole}
+use Rattle.rational_laws.proofs.Signs.{some_product}
 use Rattle.frac_core.specs.Values.{exact}
 use Rattle.contrasts.specs.declared.Coding.{Coding}
 use Rattle.data_frame.specs.Records.{Text}
@@ -135,17 +136,12 @@ wide v h = by (width v) (if_none (width v == 0) (OneLevel v.name) h)
     by zero e = absurd (cc e)
     by (suc n) e = omega arith
 
-product_some : (a b : ℕ) → 1 ≤ a → 1 ≤ b → 1 ≤ a * b
-product_some zero b h k = absurd (omega arith)
-product_some (suc a) zero h k = absurd (omega arith)
-product_some (suc a) (suc b) h k = omega arith
-
 count_some : (vs : List CodedVariable) → levels_fault vs ≡ None → 1 ≤ count vs
 unfolding levels_fault
 count_some [] h = omega arith
 count_some (v ∷ vs) h =
     let first = first_none (level_fault v) (first_some level_fault vs) h in
-    product_some (width v) (count vs) (wide v first.0) (count_some vs first.1)
+    some_product (width v) (count vs) (wide v first.0) (count_some vs first.1)
 
 term_some : (t : List CodedVariable) (ts : List (List CodedVariable)) → terms_fault (t ∷ ts) ≡ None → 1 ≤ length (flat_map term_columns (t ∷ ts))
 unfolding terms_fault

@@ -6,6 +6,7 @@ use Rattle.std.proofs.lemmas.List.Elements.{All-cons, All-nil}
 use Rattle.std.specs.List.{flat_map}
 use Rattle.std.specs.Option.{option_or}
 use Rattle.std.specs.declared.alloc.Global.{Global}
+use Rattle.rational_laws.proofs.Signs.{some_product}
 use Rattle.contrasts.specs.declared.Coding.{Coding}
 use Rattle.contrasts.specs.declared.Coding.TheVariants.{Treatment}
 use Rattle.contrasts.specs.Coding.{width_of}
@@ -60,9 +61,6 @@ levels_near coding (Numbers cells records) = omega arith
 levels_near coding (Levels levels) = width_near coding (length levels.texts.items)
 levels_near coding (Computed values) = omega arith
 
-product_some : (a b : ℕ) → 1 ≤ a → 1 ≤ b → 1 ≤ a * b
-product_some a b h k = let p : a * 1 ≤ a * b = mul-le-mul_left a k in omega arith
-
 product_left : (a b n : ℕ) → 1 ≤ b → a * b ≤ n → a ≤ n
 product_left a b n h k = let p : a * 1 ≤ a * b = mul-le-mul_left a h in omega arith
 
@@ -72,7 +70,7 @@ product_right a b n h k = let p : b * 1 ≤ b * a = mul-le-mul_left b h in omega
 count_some : (vs : List CodedVariable) → first_some level_fault vs ≡ None → 1 ≤ count vs
 count_some [] e = omega arith
 count_some (v ∷ vs) e =
-    product_some (width v) (count vs) (has_width v (none_left (level_fault v) (first_some level_fault vs) e))
+    some_product (width v) (count vs) (has_width v (none_left (level_fault v) (first_some level_fault vs) e))
     (count_some vs (none_right (level_fault v) (first_some level_fault vs) e))
 
 variables_usable : (vs : List Held) → first_some level_fault (map coded_seen vs) ≡ None → count (map coded_seen vs) ≤ 128 → All IsUsable vs

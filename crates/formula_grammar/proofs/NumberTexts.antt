@@ -13,7 +13,7 @@ use Rattle.frac_core.specs.NumberText.{are_digits, decimal_form, is_exponent_mar
 use Rattle.frac_core.specs.NumberReading.{front, rest, scan, scan_decimal, scan_from}
 use Rattle.frac_core.proofs.DigitSteps.{digit_is}
 use Rattle.frac_core.proofs.ReaderSteps.{digits_append}
-use Rattle.frac_core.proofs.Scanning.{written_body-scan}
+use Rattle.frac_core.proofs.Scanning.{written_body-scan, one_more}
 use Rattle.formula_grammar.specs.Numbers.{NumberPart, Empty, Integer, LonePoint, Decimals, ExponentMark, ExponentSign, Exponent, Slash, Denominator, digit_then, greatest, is_signed, is_whole, next_part, number_len, part_behind}
 use Rattle.formula_grammar.specs.Tokens.{begins_number, starts_by}
 
@@ -126,9 +126,6 @@ more_digits (c ∷ cs) b h d =
     let all = and_parts (nat_lt 0 (length (c ∷ cs))) (all_ascii_digits (c ∷ cs)) h in
     let one : all_ascii_digits (b ∷ []) ≡ true = rw d refl in
     rw (some_byte c (cs ++ b ∷ [])) (digits_append (c ∷ cs) (b ∷ []) all.1 one)
-
-one_more : (n : ℕ) → 1 + n ≡ suc n
-one_more n = omega arith
 
 front_digit : (b : ℕ) (bs : List ℕ) → is_ascii_digit b ≡ true → front (b ∷ bs) ≡ b ∷ front bs
 front_digit b bs h = rw (h, one_more (prefix_len is_ascii_digit bs)) refl

@@ -35,7 +35,7 @@ holds_aprod p f h = Holds (last_aprod p) (left_aprod p) f h
 abbrev pub holds_arith : Arith → Hole → ArithState
 holds_arith a h = holds_aprod (last_arith a) (front_arith a) h
 
-so_far : (a : Arith) → onto_arith (front_arith a) (onto_aprod (left_aprod (last_arith a)) (last_aprod (last_arith a))) ≡ a
+pub so_far : (a : Arith) → onto_arith (front_arith a) (onto_aprod (left_aprod (last_arith a)) (last_aprod (last_arith a))) ≡ a
 so_far a = ap (onto_arith (front_arith a)) (whole_aprod (last_arith a)) ∙ whole_arith a
 
 -- every token but `^` does the same behind a power, whether it is an atom or has an exponent
@@ -114,7 +114,3 @@ mutual
 -- Every arithmetic is read.
 pub arith_is_read : (a : Arith) (h : Hole) → arith_run (Begins h) (arith_tokens a) ≡ Some (holds_arith a h)
 arith_is_read a h = ap (arith_run (Begins h)) (sym (append-nil (arith_tokens a))) ∙ reads_arith a h []
-
--- what is read of it is that arithmetic
-pub arith_that_is_read : (a : Arith) → onto_arith (front_arith a) (onto_aprod (left_aprod (last_arith a)) (last_aprod (last_arith a))) ≡ a
-arith_that_is_read a = so_far a

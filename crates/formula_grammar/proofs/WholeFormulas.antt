@@ -9,7 +9,7 @@ use Rattle.formula_grammar.proofs.Automaton.{Wants, Has, HasItems, Done, onto_in
 use Rattle.formula_grammar.specs.Arithmetics.{Arith, arith_tokens}
 use Rattle.formula_grammar.proofs.ArithAutomaton.{Top, ArithState, Begins, arith_run, arith_step}
 use Rattle.formula_grammar.proofs.ArithShown.{no_ending}
-use Rattle.formula_grammar.proofs.WholeArithmetics.{arith_is_read, arith_that_is_read, holds_arith}
+use Rattle.formula_grammar.proofs.WholeArithmetics.{arith_is_read, holds_arith, so_far}
 
 abbrev last_inter : Inter → Power
 last_inter (Lone a) = a
@@ -103,7 +103,7 @@ inside_run c (t ∷ ts) rest s s' h =
 reads_slot : (c : Slot) (a : Arith) (n : ℕ) (rest : List Token) → run (Computing c (Begins Top)) (arith_tokens a ++ (token Close n ∷ rest)) ≡ run (slot_end c a n) rest
 reads_slot c a n rest =
     inside_run c (arith_tokens a) (token Close n ∷ rest) (Begins Top) (holds_arith a Top) (arith_is_read a Top)
-    ∙ ap (λ (b : Arith). run (slot_end c b n) rest) (arith_that_is_read a)
+    ∙ ap (λ (b : Arith). run (slot_end c b n) rest) (so_far a)
 
 -- A product may stand where a sign or an item may.
 opens_atom : (a : Atom) (o : Around) (rest : List Token) → run (Fresh o) (atom_tokens a ++ rest) ≡ run (Wants no_lefts o) (atom_tokens a ++ rest)

@@ -1,11 +1,11 @@
 -- What fine tokens of an arithmetic say of it: exponents are in range, names are columns, and its code isn't long.
-use Rattle.std.proofs.Common.{◌≡◌, ◌≤◌, ◌+◌, ◌*◌, ◌&&◌, ℕ, Bool, true, false, List, [], ◌∷◌, ◌++◌, Option, Some, None, All, Contains, length, leb-true, nat_le, refl, arith}
+use Rattle.std.proofs.Common.{◌≡◌, ◌≤◌, ◌+◌, ◌*◌, ℕ, Bool, true, false, List, [], ◌∷◌, ◌++◌, Option, Some, None, All, Contains, length, leb-true, nat_le, refl, arith}
 use Rattle.std.specs.Prelude.{bytes_eq, cond, is_none, unwrap_or}
 use Rattle.std.specs.List.{list_any}
 use Rattle.std.proofs.lemmas.List.{length-append}
 use Rattle.std.proofs.lemmas.List.Elements.{All-append, All-cons, All-nil, All-head, All-push, All-tail, Contains-get_or}
 use Rattle.std.proofs.lemmas.List.Quantifiers.{position-Some}
-use Rattle.std.proofs.lemmas.Bool.{and_from}
+use Rattle.std.proofs.lemmas.Bool.{and_from, and_parts}
 use Rattle.frac_core.specs.declared.arith.ArithOp.{ArithOp}
 use Rattle.frac_core.specs.declared.arith.ArithOp.TheVariants as op
 use Rattle.formula_grammar.specs.declared.reading.ArithStep.TheVariants as step
@@ -71,12 +71,8 @@ lead_numbered Bare = refl
 lead_numbered (Led Plus n) = refl
 lead_numbered (Led Minus n) = refl
 
-second_true : (a b : Bool) → (a && b) ≡ true → b ≡ true
-second_true true b e = e
-second_true false b e = absurd (cc e)
-
 at_most_8 : (k : ℕ) → is_exponent k ≡ true → k ≤ 8
-at_most_8 k e = leb-true k 8 (second_true (nat_le 1 k) (nat_le k 8) e)
+at_most_8 k e = leb-true k 8 (and_parts (nat_le 1 k) (nat_le k 8) e).1
 
 module _ (text : Text) (names : List Text) where
   abbrev named : Span → Text

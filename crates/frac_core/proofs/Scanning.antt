@@ -14,7 +14,7 @@ use Rattle.frac_core.specs.NumberReading.{front, rest, scan, scan_decimal, scan_
 
 -- ---- the first byte of a kind
 
-one_more : (n : ℕ) → 1 + n ≡ suc n
+pub one_more : (n : ℕ) → 1 + n ≡ suc n
 one_more n = omega arith
 
 -- no digit is of this kind

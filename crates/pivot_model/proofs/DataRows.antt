@@ -13,10 +13,6 @@ use Rattle.pivot_model.specs.Duals.{HasCosts}
 above_zero : (p : Sample) (i : ℕ) → IsDataRow p i → ¬ (p.up1 i ≤ℚ whole (pos 0))
 above_zero p i row = (cmp_ℚ-Less (whole (pos 0)) (p.up1 i)).0 row.weighted
 
--- a number that is not below 0
-pub at_least_zero : (x : ℚ) → ¬ (x ≤ℚ whole (pos 0)) → whole (pos 0) ≤ℚ x
-at_least_zero x h = le_from_not (whole (pos 0)) x h
-
 module _ (p : Sample) (theta : ℚ) (i : ℕ) (row : IsDataRow p i) where
   up_is : up_cost p theta i ≡ p.up1 i *ℚ theta
   up_is = ap (λ z. z +ℚ (p.up1 i *ℚ theta)) row.up0 ∙ ring_ℚ (p.up1 i ∷ theta ∷ []) (number (pos 0) ⊞ v0 ⊠ v1) (v0 ⊠ v1) refl
@@ -39,7 +35,7 @@ pub record IsCosted (p : Sample) (theta : ℚ) (i : ℕ) : Type 0 where
 
 pub row_costs : (p : Sample) (theta : ℚ) (i : ℕ) → whole (pos 0) ≤ℚ theta → theta ≤ℚ whole (pos 1) → IsDataRow p i → IsCosted p theta i
 row_costs p theta i low high row =
-    let weight = at_least_zero (p.up1 i) (above_zero p i row) in
+    let weight = le_from_not (whole (pos 0)) (p.up1 i) (above_zero p i row) in
     record {
       up = subst (λ z. whole (pos 0) ≤ℚ z) (sym (up_is p theta i row)) (product_not_negative (p.up1 i) theta weight low);
       down = subst (λ z. whole (pos 0) ≤ℚ z) (sym (down_is p theta i row)) (product_not_negative (p.up1 i) (whole (pos 1) -ℚ theta) weight ((≤ℚ-minus theta (whole (pos 1))).0 high));

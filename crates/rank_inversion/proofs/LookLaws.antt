@@ -17,11 +17,11 @@ use Rattle.fraction_tableau.specs.Kept.{Kept, place}
 use Rattle.fraction_tableau.specs.Next.{IsDualFault}
 use Rattle.fraction_tableau.specs.Standing.{AreDuals}
 use Rattle.fraction_tableau.proofs.NextSteps.{duals_here}
+use Rattle.fraction_tableau.proofs.Refusals.{short_weaker}
 use Rattle.rank_inversion.specs.declared.course.Course.{Course}
 use Rattle.rank_steps.specs.Ways.{way_of}
 use Rattle.rank_inversion.specs.Courses.{tau_of, bound_of, parameter_at}
 use Rattle.rank_inversion.specs.Looks.{IsSpillAt}
-use Rattle.rank_inversion.proofs.Operations.{short_weaker}
 use Rattle.rank_inversion.proofs.Spills.{basis_here, dual_here}
 
 module _ {F : Type 0} (value : F → Fraction) (k : Kept F) (c : Course F) where

@@ -12,12 +12,12 @@ use Rattle.basis_model.specs.Basis.{coord}
 use Rattle.pivot_model.proofs.Passing.{mover_some}
 use Rattle.walk_model.specs.Walks.{IsWalkingStep}
 use Rattle.fraction_tableau.specs.Kept.{Kept}
+use Rattle.fraction_tableau.proofs.Refusals.{short_weaker}
 use Rattle.rank_walk_model.specs.RankWalks.{Way, rise, fall, tested}
 use Rattle.rank_inversion.specs.declared.course.Course.{Course}
 use Rattle.rank_steps.specs.Ways.{way_of}
 use Rattle.rank_inversion.specs.Courses.{tau_of, bound_of, parameter_at}
 use Rattle.rank_inversion.specs.Looks.{IsStepAt, IsSpillAt}
-use Rattle.rank_inversion.proofs.Operations.{short_weaker}
 use Rattle.rank_inversion.proofs.Spills.{exchange_here}
 
 -- its position and its row are there, and the row has a coordinate at the position

@@ -1,8 +1,7 @@
 -- What is found at the first crossing of a station, for the problem.
 use Rattle.std.specs.Prelude.{◌≡◌, ℕ, ◌*◌, ◌<◌, ◌≤◌, true, false, List, None, Some, length, slice_index, pos}
 use Rattle.std.specs.Ordering.{nat_cmp, is_gt}
-use Rattle.std.proofs.Common.{arith, sym, ap, subst, ◌∙◌}
-use Rattle.std.proofs.lemmas.Int.{ints}
+use Rattle.std.proofs.Common.{sym, ap, subst, ◌∙◌}
 use Rattle.rational_laws.specs.Fraction.{Fraction, rational}
 use Rattle.rational_laws.specs.Rational.{ℚ, ◌-ℚ◌, ◌*ℚ◌, inverse, whole, ◌≤ℚ◌}
 use Rattle.loss_model.specs.declared.process.Exchange.{Exchange}
@@ -24,7 +23,7 @@ use Rattle.whole_inverse.specs.Squares.{inverse_of}
 use Rattle.whole_rows.specs.declared.factor.Factor.{Factor}
 use Rattle.whole_rows.specs.declared.rows.WholeRow.{WholeRow}
 use Rattle.whole_rows.specs.Wholes.{factor_at, factor_value, IsPositive}
-use Rattle.whole_solution.proofs.Numbers.{share_above}
+use Rattle.whole_rows.proofs.Problems.{factor_positive}
 use Rattle.whole_steps.specs.declared.station.Station.{Station}
 use Rattle.whole_steps.specs.declared.crossings.Quotient.{Quotient}
 use Rattle.whole_steps.specs.Crossings.{quotient_value}
@@ -40,9 +39,6 @@ use Rattle.rank_tableau.specs.Founds.{scale_of, bound_by, parameter_at, family_o
 use Rattle.rank_tableau.proofs.Breaks.{first_is_next, turned_twice}
 use Rattle.rank_tableau.proofs.Reaches.{beyond_by, within_by}
 use Rattle.rank_tableau.proofs.Tested.{first_back, product_positive}
-
-pub positive_factor : (f : Factor) → IsPositive f → ¬ (factor_value f ≤ℚ whole (pos 0))
-positive_factor f h = share_above f.over f.under h.under (omega (arith, ints, h.over))
 
 -- a step by a next breakpoint that is within the bound
 step_on : (way : Way) (p : Sample) (tau : ℚ) (j : ℕ) (at : ℕ → ℕ) (a : ℕ → ℕ → ℚ) (bound from t : ℚ) (k r : ℕ) (d : Direction)
@@ -81,7 +77,7 @@ module _ {F : Type 0} (value : F → Fraction) (k : Kept F) (h : IsKept value k)
   tau = rational (value c.tau)
 
   ps : ¬ (factor_at k.setting.wholes.factors c.column ≤ℚ whole (pos 0))
-  ps = subst (λ z. ¬ (z ≤ℚ whole (pos 0))) ef (positive_factor f pf)
+  ps = subst (λ z. ¬ (z ≤ℚ whole (pos 0))) ef (factor_positive f pf)
 
   scaled_theta : rational (value theta) ≡ rational (quotient_value b.theta) *ℚ inverse (scale_of k c.column)
   scaled_theta = is_theta ∙ ap (λ z. rational (quotient_value b.theta) *ℚ inverse (lc *ℚ z)) ef

@@ -1,13 +1,13 @@
 -- Signs of sums, products and negatives, and what 0 does beside them.
 --
 --     not negative      sum_not_negative, product_not_negative, whole_not_negative
---     not 0             positive_nonzero, whole_nonzero
+--     not 0             positive_nonzero, whole_nonzero, some_product
 --     a negative        neg-neg, negative_below
 --     0                 plus-zero, zero-times, times-zero
 --     by a comparison   not_below, below_trans
 use Rattle.std.specs.Ordering.{is_lt}
 use Rattle.std.specs.declared.cmp.Ordering.TheVariants.{Less}
-use Rattle.std.proofs.Common.{◌≡◌, ◌≢◌, ◌*◌, ℕ, true, false, ℤ, pos, ◌*ℤ◌, ◌≤ℤ◌, [], ◌∷◌, arith, refl, sym, ap, subst, ◌∙◌}
+use Rattle.std.proofs.Common.{◌≡◌, ◌≢◌, ◌*◌, ◌≤◌, ℕ, zero, suc, true, false, ℤ, pos, ◌*ℤ◌, ◌≤ℤ◌, [], ◌∷◌, arith, refl, sym, ap, subst, ◌∙◌}
 use Rattle.std.proofs.lemmas.Int.{ints}
 use Rattle.rational_laws.specs.Solver.{number, negated, ◌⊞◌, ◌⊠◌, v0}
 use Rattle.rational_laws.specs.Rational.{ℚ, ◌+ℚ◌, ◌*ℚ◌, neg_ℚ, whole, ◌≤ℚ◌}
@@ -64,3 +64,8 @@ pub whole_product : (m n : ℕ) → whole (pos (m * n)) ≡ whole (pos m) *ℚ w
 whole_product m n =
     let e : pos (m * n) ≡ pos m *ℤ pos n = omega (arith, ints) in
     ap whole e ∙ whole-mul (pos m) (pos n)
+
+pub some_product : (a b : ℕ) → 1 ≤ a → 1 ≤ b → 1 ≤ a * b
+some_product zero b h k = absurd (omega arith)
+some_product (suc a) zero h k = absurd (omega arith)
+some_product (suc a) (suc b) h k = omega arith

@@ -1,7 +1,7 @@
 -- Data rows and penalty rows have costs at every quantile.
 use Rattle.std.proofs.Common.{◌≡◌, ◌<◌, ◌≤◌, ℕ, [], ◌∷◌, length, pos, inl, inr, refl, sym, ap, subst, ◌∙◌}
 use Rattle.std.proofs.lemmas.Bool.{cases_lt}
-use Rattle.rational_laws.proofs.OrderLaws.{cmp_ℚ-Less, ≤ℚ-minus}
+use Rattle.rational_laws.proofs.OrderLaws.{cmp_ℚ-Less, le_from_not, ≤ℚ-minus}
 use Rattle.rational_laws.specs.Fraction.{rational}
 use Rattle.rational_laws.specs.Rational.{ℚ, ◌+ℚ◌, ◌*ℚ◌, whole, ◌≤ℚ◌}
 use Rattle.rational_laws.proofs.RationalLaws.{≤ℚ_trans, ring_ℚ}
@@ -10,7 +10,7 @@ use Rattle.frac_core.specs.Values.{value}
 use Rattle.loss_model.specs.Problem.{sample}
 use Rattle.loss_model.specs.Sample.{Sample, up_cost, down_cost}
 use Rattle.pivot_model.specs.Duals.{HasCosts}
-use Rattle.pivot_model.proofs.DataRows.{IsCosted, at_least_zero, row_costs}
+use Rattle.pivot_model.proofs.DataRows.{IsCosted, row_costs}
 use Rattle.rq_words.specs.declared.job.FitJob.{FitJob}
 use Rattle.rq_program.specs.Costs.{IsPenaltyRow}
 use Rattle.rq_input.specs.Rows.{HasRows}
@@ -20,7 +20,7 @@ use Rattle.rq_engine.specs.Asks.{IsFitAsk}
 -- a number above 0 and itself again are above 0
 twice_above : (x : ℚ) → ¬ (x ≤ℚ whole (pos 0)) → ¬ ((x +ℚ x) ≤ℚ whole (pos 0))
 twice_above x above h =
-    above (≤ℚ_trans x (x +ℚ x) (whole (pos 0)) ((≤ℚ-minus x (x +ℚ x)).1 (subst (λ z. whole (pos 0) ≤ℚ z) (sym (ring_ℚ (x ∷ []) (v0 ⊞ v0 ⊟ v0) v0 refl)) (at_least_zero x above))) h)
+    above (≤ℚ_trans x (x +ℚ x) (whole (pos 0)) ((≤ℚ-minus x (x +ℚ x)).1 (subst (λ z. whole (pos 0) ≤ℚ z) (sym (ring_ℚ (x ∷ []) (v0 ⊞ v0 ⊟ v0) v0 refl)) (le_from_not (whole (pos 0)) x above))) h)
 
 penalty_costs : (p : Sample) (theta : ℚ) (i : ℕ) → IsPenaltyRow p i → IsCosted p theta i
 penalty_costs p theta i row =
@@ -34,7 +34,7 @@ penalty_costs p theta i row =
     above = (cmp_ℚ-Less (whole (pos 0)) (p.up0 i)).0 row.weighted
 
     lambda : whole (pos 0) ≤ℚ p.up0 i
-    lambda = at_least_zero (p.up0 i) above
+    lambda = le_from_not (whole (pos 0)) (p.up0 i) above
 
     -- a cost that doesn't change with theta
     steady : (x : ℚ) → x +ℚ (whole (pos 0) *ℚ theta) ≡ x

@@ -1,7 +1,8 @@
 -- From `clap`'s clauses to the options of a command.
-use Rattle.std.proofs.Common.{◌≡◌, ◌∙◌, ◌⊎◌, inl, inr, ◌&&◌, ◌<◌, ◌≤◌, ◌+◌, ℕ, Bool, true, false, List, [], ◌∷◌, ◌++◌, Some, None, Bor, ap, refl, sym, length, take, map}
+use Rattle.std.proofs.Common.{◌≡◌, ◌∙◌, ◌⊎◌, inl, inr, ◌<◌, ◌≤◌, ◌+◌, ℕ, Bool, true, List, [], ◌∷◌, ◌++◌, Some, None, Bor, ap, refl, sym, length, take, map}
 use Rattle.std.specs.List.{slice_index_or}
 use Rattle.std.proofs.lemmas.List.{append_assoc, map_more, take_all}
+use Rattle.std.proofs.lemmas.Bool.{and_parts}
 use Rattle.clap.specs.Words.{App, HasMatchesOf, IsAmong, Kinds, Row, Rule, Text, fault_of, found_of, is_simple, is_simple_and_free, matches_of, rows_of, with_rule}
 use Rattle.clap.specs.Faults.{is_free_app}
 use Rattle.clap.specs.Simple.{built}
@@ -35,10 +36,6 @@ unfolding clap_on_literals
 simple Process = refl
 simple other = refl
 
-first_of_and : (a b : Bool) → (a && b) ≡ true → a ≡ true
-first_of_and true b h = refl
-first_of_and false b h = h
-
 -- what is found where the words are taken
 pub taken : (made app : App) (words : List Text) (m : ArgMatches) → made ≡ app → is_simple_and_free app ≡ true
     → (is_simple_and_free made ≡ true → fault_of made words ≡ []) → HasMatchesOf made words m
@@ -46,7 +43,7 @@ pub taken : (made app : App) (words : List Text) (m : ArgMatches) → made ≡ a
 unfolding read_by
 taken made app words m e simple ok has =
     let none : fault_of app words ≡ [] = rw (← e) (ok (rw e simple)) in
-    let rows : rows_of (found_of m) ≡ matches_of made words = (has (rw e (first_of_and (is_simple app) (is_free_app (built app)) simple))).0 in
+    let rows : rows_of (found_of m) ≡ matches_of made words = (has (rw e (and_parts (is_simple app) (is_free_app (built app)) simple).0)).0 in
     rw (none, rows, e) refl
 
 some_kind : (k : ErrorKind) (kinds : Kinds) (rows : List Row) → IsAmong k kinds → some_if_none kinds rows ≡ None

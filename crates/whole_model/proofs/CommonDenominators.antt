@@ -1,22 +1,18 @@
 -- Fractions over a common denominator: every vector of them is one of whole numbers over one.
 use Rattle.std.specs.Prelude.{◌≡◌, ℕ, zero, suc, ◌*◌, ◌<◌, ◌≤◌, Bool, true, false, cond, ltb, [], ◌∷◌, ℤ, pos, ◌*ℤ◌}
 use Rattle.std.proofs.Common.{arith, refl, sym, ap, ◌∙◌}
-use Rattle.std.proofs.Math.Nat.{mul-pos}
 use Rattle.std.proofs.lemmas.Bool.{ltb-false}
 use borrow.Author.Tests.{ltb-true}
 use Rattle.rational_laws.specs.Solver.{◌⊠◌, v0, v1, v2}
 use Rattle.rational_laws.specs.Rational.{ℚ, ◌*ℚ◌, whole}
 use Rattle.rational_laws.proofs.RationalLaws.{whole-mul, ring_ℚ}
-use Rattle.rational_laws.proofs.Signs.{whole_product}
+use Rattle.rational_laws.proofs.Signs.{whole_product, some_product}
 use Rattle.loss_model.proofs.Quotients.{whole-quotient}
 use Rattle.whole_model.proofs.LowestTerms.{lowest_of}
 
 -- c/d is v in each of the first n places
 pub record IsOver (n : ℕ) (c : ℕ → ℤ) (d : ℕ) (v : ℕ → ℚ) : Type 0 where
   pub each : (k : ℕ) → k < n → whole (c k) ≡ whole (pos d) *ℚ v k
-
-pub one_le : (a b : ℕ) → 1 ≤ a → 1 ≤ b → 1 ≤ a * b
-one_le a b h k = let p : zero < a * b = mul-pos (omega arith) (omega arith) in omega arith
 
 -- over a product of two denominators
 pub over_product : (n : ℕ) (c : ℕ → ℤ) (d g : ℕ) (v : ℕ → ℚ) → IsOver n c (d * g) v → (k : ℕ) → k < n → whole (c k) ≡ (whole (pos d) *ℚ whole (pos g)) *ℚ v k
@@ -54,6 +50,6 @@ common_denominator (suc n) v =
     record {
       c = extended n before.c before.d last.v.num last.v.den;
       d = before.d * last.v.den;
-      positive = one_le before.d last.v.den before.positive last.is.positive;
+      positive = some_product before.d last.v.den before.positive last.is.positive;
       over = extended_is n before.c before.d last.v.num last.v.den v before.over (whole-quotient last.v.num last.v.den last.is.positive ∙ ap (λ z. whole (pos last.v.den) *ℚ z) last.is.is);
     }

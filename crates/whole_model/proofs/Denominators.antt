@@ -8,14 +8,13 @@ use Rattle.rational_laws.specs.Solver.{number, ◌⊠◌, v0, v1, v2, v3}
 use Rattle.rational_laws.specs.Rational.{ℚ, ◌*ℚ◌, inverse, quotient, whole}
 use Rattle.rational_laws.proofs.RationalLaws.{whole-mul, ring_ℚ, ring_by_ℚ}
 use Rattle.rational_laws.proofs.Quotients.{quotient_from}
-use Rattle.rational_laws.proofs.Signs.{whole_product}
+use Rattle.rational_laws.proofs.Signs.{whole_product, some_product}
 use Rattle.loss_model.specs.declared.problem.Row.{Row}
 use Rattle.loss_model.specs.declared.problem.Problem.{Problem}
 use Rattle.loss_model.specs.Problem.{value_at, sample}
 use Rattle.whole_model.specs.Scaled.{row_values, values, unit, over_at, scaled}
 use Rattle.whole_model.specs.Laws.{LossInIntegers, MinimisesInIntegers, DualsInIntegers, ListIsOver}
 use Rattle.loss_model.proofs.Quotients.{inverse_of, whole-quotient}
-use Rattle.whole_model.proofs.CommonDenominators.{one_le}
 use Rattle.whole_model.proofs.Scales.{Scales, loss_scaled}
 use Rattle.whole_model.proofs.Integers.{minima, duals}
 
@@ -64,11 +63,11 @@ module _ {F : Type 0} (value : F → Fraction) (positive : (x : F) → 1 ≤ (va
 
   one_le_common : (xs : List F) → 1 ≤ common (map value xs)
   one_le_common [] = omega arith
-  one_le_common (x ∷ xs) = one_le (value x).den (common (map value xs)) (positive x) (one_le_common xs)
+  one_le_common (x ∷ xs) = some_product (value x).den (common (map value xs)) (positive x) (one_le_common xs)
 
   one_le_append : (xs : List F) (vs : List Fraction) → 1 ≤ common vs → 1 ≤ common (map value xs ++ vs)
   one_le_append [] vs h = h
-  one_le_append (x ∷ xs) vs h = one_le (value x).den (common (map value xs ++ vs)) (positive x) (one_le_append xs vs h)
+  one_le_append (x ∷ xs) vs h = some_product (value x).den (common (map value xs ++ vs)) (positive x) (one_le_append xs vs h)
 
   one_le_values : (rows : List (Row F)) → 1 ≤ common (values value rows)
   one_le_values [] = omega arith
@@ -112,7 +111,7 @@ module _ {F : Type 0} (value : F → Fraction) (positive : (x : F) → 1 ≤ (va
   dual p theta c d e g tp dp gp =
       let q = unit value p in
       duals q (sample value p) (scaled value p) (scales p) (unit_positive p) theta tp e g (λ i. quotient (e i) (q * g)) gp
-      (record { each = λ i l. whole-quotient (e i) (q * g) (one_le q g (unit_positive p) gp) })
+      (record { each = λ i l. whole-quotient (e i) (q * g) (some_product q g (unit_positive p) gp) })
       c d (λ k. quotient (c k) d) dp (record { each = λ k l. whole-quotient (c k) d dp })
 
   pub list_is_over : (xs : List F) → ListIsOver value xs

@@ -10,7 +10,7 @@ use Rattle.rational_laws.proofs.RationalSumLaws.{sum_ℚ-same, sum_ℚ-scale}
 use Rattle.rational_laws.proofs.WholeNumbers.{whole-neg, whole-sum}
 use Rattle.rational_laws.specs.Fraction.{Fraction, rational}
 use Rattle.rational_laws.proofs.Quotients.{quotient_from}
-use Rattle.rational_laws.proofs.Signs.{whole_product}
+use Rattle.rational_laws.proofs.Signs.{whole_product, some_product}
 use Rattle.loss_model.specs.Sample.{Sample}
 use Rattle.loss_model.specs.Sample as exact
 use Rattle.loss_model.specs.Dual.{mix}
@@ -18,7 +18,7 @@ use Rattle.loss_model.specs.Dual as exact_dual
 use Rattle.whole_model.specs.Scaled.{Scaled, up_cost, down_cost, loss, Minimises, IsFeasible, IsDual, between, mixed}
 use Rattle.whole_model.specs.Laws.{DualsShowMinimumInIntegers, MixIsDualInIntegers}
 use Rattle.loss_model.proofs.Quotients.{inverse_of, whole-quotient}
-use Rattle.whole_model.proofs.CommonDenominators.{IsOver, over_product, one_le, common_denominator}
+use Rattle.whole_model.proofs.CommonDenominators.{IsOver, over_product, common_denominator}
 use Rattle.whole_model.proofs.Units.{positive_whole, order_of, equation_of}
 use Rattle.whole_model.proofs.Scales.{Scales, up_scaled, down_scaled, loss_scaled}
 use Rattle.loss_model.proofs.Duality.{minimum}
@@ -40,7 +40,7 @@ module _ (q : ℕ) (p : Sample) (w : Scaled) (s : Scales q p w) (qp : 1 ≤ q) (
         → (exact.loss p (rational theta) v ≤ℚ exact.loss p (rational theta) v') ↔ ((loss w theta c d *ℤ pos d') ≤ℤ (loss w theta c' d' *ℤ pos d))
     losses c' d' v' dp' vector' =
         order_of (whole (pos ((q * (theta.den * q)) * (d * d')))) (loss w theta c d *ℤ pos d') (loss w theta c' d' *ℤ pos d) (exact.loss p (rational theta) v) (exact.loss p (rational theta) v')
-        (positive_whole ((q * (theta.den * q)) * (d * d')) (one_le (q * (theta.den * q)) (d * d') (one_le q (theta.den * q) qp (one_le theta.den q tp qp)) (one_le d d' dp dp')))
+        (positive_whole ((q * (theta.den * q)) * (d * d')) (some_product (q * (theta.den * q)) (d * d') (some_product q (theta.den * q) qp (some_product theta.den q tp qp)) (some_product d d' dp dp')))
         (whole-mul (loss w theta c d) (pos d') ∙ ap (λ z. z *ℚ whole (pos d')) (loss_scaled q p w s theta tp c d v vector)
         ∙ ring_ℚ (Q ∷ t ∷ whole (pos d) ∷ whole (pos d') ∷ exact.loss p (rational theta) v ∷ []) ((((v0 ⊠ v1) ⊠ (v0 ⊠ v2)) ⊠ v4) ⊠ v3) (((v0 ⊠ (v1 ⊠ v0)) ⊠ (v2 ⊠ v3)) ⊠ v4) refl
         ∙ ap (λ z. z *ℚ exact.loss p (rational theta) v) (sym unit_is))
@@ -66,7 +66,7 @@ module _ (q : ℕ) (p : Sample) (w : Scaled) (s : Scales q p w) (qp : 1 ≤ q) (
     G = whole (pos g)
 
     bound_unit : 1 ≤ theta.den * (q * g)
-    bound_unit = one_le theta.den (q * g) tp (one_le q g qp gp)
+    bound_unit = some_product theta.den (q * g) tp (some_product q g qp gp)
 
     value_at_unit : (i : ℕ) → i < p.rows → whole (pos theta.den *ℤ e i) ≡ whole (pos (theta.den * (q * g))) *ℚ f i
     value_at_unit i l =
@@ -102,7 +102,7 @@ module _ (q : ℕ) (p : Sample) (w : Scaled) (s : Scales q p w) (qp : 1 ≤ q) (
     pub balanced_of : (k : ℕ) → (sum_ℚ p.rows (λ i. f i *ℚ p.x i k) ≡ whole (pos 0)) ↔ (sum_to w.rows (λ i. e i *ℤ w.x i k) ≡ pos 0)
     balanced_of k =
         equation_of (whole (pos (q * (q * g)))) (sum_to w.rows (λ i. e i *ℤ w.x i k)) (pos 0) (sum_ℚ p.rows (λ i. f i *ℚ p.x i k)) (whole (pos 0))
-        (positive_whole (q * (q * g)) (one_le q (q * g) qp (one_le q g qp gp)))
+        (positive_whole (q * (q * g)) (some_product q (q * g) qp (some_product q g qp gp)))
         (sum_is (λ i. e i *ℤ w.x i k) (λ i. f i *ℚ p.x i k)
         (λ i l. whole-mul (e i) (w.x i k) ∙ ap (λ z. z *ℚ whole (w.x i k)) (over_product p.rows e q g f over i l) ∙ ap (λ z. ((Q *ℚ G) *ℚ f i) *ℚ z) (s.x i k)
         ∙ ring_ℚ (Q ∷ G ∷ f i ∷ p.x i k ∷ []) (((v0 ⊠ v1) ⊠ v2) ⊠ (v0 ⊠ v3)) ((v0 ⊠ (v0 ⊠ v1)) ⊠ (v2 ⊠ v3)) refl)
@@ -130,7 +130,7 @@ module _ (q : ℕ) (p : Sample) (w : Scaled) (s : Scales q p w) (qp : 1 ≤ q) (
       equal_of : (exact.loss p (rational theta) v ≡ exact_dual.dual_objective p f) ↔ (loss w theta c d *ℤ pos g ≡ (pos theta.den *ℤ pos d) *ℤ sum_to w.rows (λ i. w.y i *ℤ e i))
       equal_of =
           equation_of (whole (pos ((theta.den * d) * (q * (q * g))))) (loss w theta c d *ℤ pos g) ((pos theta.den *ℤ pos d) *ℤ sum_to w.rows (λ i. w.y i *ℤ e i)) (exact.loss p (rational theta) v) (exact_dual.dual_objective p f)
-          (positive_whole ((theta.den * d) * (q * (q * g))) (one_le (theta.den * d) (q * (q * g)) (one_le theta.den d tp dp) (one_le q (q * g) qp (one_le q g qp gp))))
+          (positive_whole ((theta.den * d) * (q * (q * g))) (some_product (theta.den * d) (q * (q * g)) (some_product theta.den d tp dp) (some_product q (q * g) qp (some_product q g qp gp))))
           (whole-mul (loss w theta c d) (pos g) ∙ ap (λ z. z *ℚ G) (loss_scaled q p w s theta tp c d v vector)
           ∙ ring_ℚ (Q ∷ t ∷ D ∷ G ∷ exact.loss p (rational theta) v ∷ []) ((((v0 ⊠ v1) ⊠ (v0 ⊠ v2)) ⊠ v4) ⊠ v3) (((v1 ⊠ v2) ⊠ (v0 ⊠ (v0 ⊠ v3))) ⊠ v4) refl
           ∙ ap (λ z. z *ℚ exact.loss p (rational theta) v) (sym unit_is))
@@ -214,7 +214,7 @@ mix-quotient m n a b g h gp hp some =
 
 between-mix : (m n : ℕ) (lo hi : Fraction) → 1 ≤ lo.den → 1 ≤ hi.den → 0 < m + n → rational (between m n lo hi) ≡ mix m n (rational lo) (rational hi)
 between-mix m n lo hi p q some =
-    sym (quotient_from (mix m n (rational lo) (rational hi)) (between m n lo hi).num ((m + n) * (lo.den * hi.den)) (one_le (m + n) (lo.den * hi.den) (omega arith) (one_le lo.den hi.den p q))
+    sym (quotient_from (mix m n (rational lo) (rational hi)) (between m n lo hi).num ((m + n) * (lo.den * hi.den)) (some_product (m + n) (lo.den * hi.den) (omega arith) (some_product lo.den hi.den p q))
     (sym (mix-quotient m n lo.num hi.num lo.den hi.den p q some)))
 
 one-times : (n : ℕ) → n ≡ 1 * n
@@ -232,8 +232,8 @@ over_mix r m n e f g h gp hp some =
 
 pub mixed_of : MixIsDualInIntegers
 mixed_of w lo hi c d e f g h m n lp up dp gp hp some a b =
-    let bp = one_le (m + n) (lo.den * hi.den) (omega arith) (one_le lo.den hi.den lp up) in
-    let kp = one_le (m + n) (g * h) (omega arith) (one_le g h gp hp) in
+    let bp = some_product (m + n) (lo.den * hi.den) (omega arith) (some_product lo.den hi.den lp up) in
+    let kp = some_product (m + n) (g * h) (omega arith) (some_product g h gp hp) in
     let x = λ (i : ℕ). mix m n (quotient (e i) (1 * g)) (quotient (f i) (1 * h)) in
     (duals 1 (embedded w) w (once w) (omega arith) (between m n lo hi) bp (mixed m n e g f h) ((m + n) * (g * h)) x kp (over_mix w.rows m n e f g h gp hp some)
     c d (λ k. quotient (c k) d) dp (over_all w.columns c d dp)).0

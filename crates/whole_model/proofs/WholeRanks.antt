@@ -9,14 +9,14 @@ use Rattle.rational_laws.specs.RationalSums.{sum_ℚ}
 use Rattle.rational_laws.proofs.RationalSumLaws.{sum_ℚ-same, sum_ℚ-scale}
 use Rattle.rational_laws.proofs.WholeNumbers.{whole-sum}
 use Rattle.rational_laws.specs.Fraction.{Fraction, rational}
-use Rattle.rational_laws.proofs.Signs.{whole_product}
+use Rattle.rational_laws.proofs.Signs.{whole_product, some_product}
 use Rattle.loss_model.specs.declared.problem.Problem.{Problem}
 use Rattle.loss_model.specs.Problem.{sample}
 use Rattle.loss_model.specs.Sample.{Sample}
 use Rattle.loss_model.specs.Sample as samples
 use Rattle.whole_model.specs.Scaled.{Scaled, scaled, unit}
 use Rattle.loss_model.proofs.Quotients.{whole-quotient, whole-sub}
-use Rattle.whole_model.proofs.CommonDenominators.{IsOver, over_product, one_le, common_denominator}
+use Rattle.whole_model.proofs.CommonDenominators.{IsOver, over_product, common_denominator}
 use Rattle.whole_model.proofs.Units.{positive_whole, positive_product, order_of, zero_of}
 use Rattle.whole_model.proofs.Integers.{lower_of, upper_of, balanced_of}
 use Rattle.whole_model.proofs.Scales.{Scales}
@@ -90,7 +90,7 @@ module _ (q : ℕ) (p : Sample) (w : Scaled) (s : Scales q p w) (qp : 1 ≤ q) (
 
   -- every list of quotients is such a list
   quotients_over : (e : ℕ → ℤ) (g : ℕ) → 1 ≤ g → IsOver p.rows e (q * g) (λ i. quotient (e i) (q * g))
-  quotients_over e g gp = record { each = λ i l. whole-quotient (e i) (q * g) (one_le q g qp gp) }
+  quotients_over e g gp = record { each = λ i l. whole-quotient (e i) (q * g) (some_product q g qp gp) }
 
   -- and a list over one denominator is one too
   over_more : (c : ℕ → ℤ) (d : ℕ) (f : ℕ → ℚ) → IsOver p.rows c d f → IsOver p.rows (λ i. c i *ℤ pos q) (q * d) f

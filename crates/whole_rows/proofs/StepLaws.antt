@@ -37,9 +37,6 @@ turned-mul Up l x = refl
 turned-mul Down l x = ring_ℚ (l ∷ x ∷ []) (negated (v0 ⊠ v1)) (v0 ⊠ negated v1) refl
 turned-mul Basic l x = refl
 
-positive_le : (l : ℚ) → ¬ (l ≤ℚ whole (pos 0)) → whole (pos 0) ≤ℚ l
-positive_le l h = le_from_not (whole (pos 0)) l h
-
 module _ (p q : Sample) (s : ℕ → ℚ) (ly lc : ℚ) (h : IsScaled p q s ly lc) (a : ℕ → ℕ → ℚ) (at : ℕ → ℕ) (within : (j : ℕ) → j < p.columns → at j < p.rows) (py : ¬ (ly ≤ℚ whole (pos 0))) (pc : ¬ (lc ≤ℚ whole (pos 0))) where
   -- the row outside, with its residual times ly
   abbrev raised : ℕ → Nonbasic
@@ -119,7 +116,7 @@ module _ (p q : Sample) (s : ℕ → ℚ) (ly lc : ℚ) (h : IsScaled p q s ly l
   back x y z w e f l = ≤ℚ-from_mul x y lc pc (subst (λ v. v ≤ℚ (lc *ℚ y)) e (subst (λ v. z ≤ℚ v) f l))
 
   forth : (x y z w : ℚ) → z ≡ lc *ℚ x → w ≡ lc *ℚ y → x ≤ℚ y → z ≤ℚ w
-  forth x y z w e f l = subst (λ v. v ≤ℚ w) (sym e) (subst (λ v. (lc *ℚ x) ≤ℚ v) (sym f) (≤ℚ_mul x y lc (positive_le lc pc) l))
+  forth x y z w e f l = subst (λ v. v ≤ℚ w) (sym e) (subst (λ v. (lc *ℚ x) ≤ℚ v) (sym f) (≤ℚ_mul x y lc (le_from_not (whole (pos 0)) lc pc) l))
 
   zero_is : whole (pos 0) ≡ lc *ℚ whole (pos 0)
   zero_is = ring_ℚ (lc ∷ []) (number (pos 0)) (v0 ⊠ number (pos 0)) refl

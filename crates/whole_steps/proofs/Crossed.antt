@@ -1,5 +1,5 @@
 -- A crossing by its two numerators, and the first one of all.
-use Rattle.std.specs.Prelude.{◌≡◌, ◌≢◌, ℕ, ℤ, ◌<◌, ◌≤ℤ◌, ◌<ℤ◌, neg_ℤ, unsigned_abs, Option, Some, None, pos}
+use Rattle.std.specs.Prelude.{◌≡◌, ℕ, ℤ, ◌<◌, ◌≤ℤ◌, ◌<ℤ◌, neg_ℤ, unsigned_abs, Option, Some, None, pos}
 use Rattle.std.proofs.Common.{arith, sym, ap, ap₂, subst, ◌∙◌}
 use Rattle.std.proofs.lemmas.Int.{ints}
 use Rattle.rational_laws.specs.Fraction.{rational}
@@ -24,9 +24,7 @@ use Rattle.whole_steps.specs.declared.station.Station.{Station}
 use Rattle.whole_steps.specs.declared.crossings.Quotient.{Quotient}
 use Rattle.whole_steps.specs.Stations.{model, at_of, inverse_at, over_of, slope_at}
 use Rattle.whole_steps.specs.Crossings.{quotient_value, falls_at, quotient_at, IsCrossingTowards}
-
-nonzero : (d : ℤ) → pos 1 ≤ℤ d → d ≢ pos 0
-nonzero d h e = omega (arith, ints)
+use Rattle.whole_steps.proofs.Movers.{nonzero}
 
 module _ (s : Station) (j : ℕ) (d : Direction) (positive : pos 1 ≤ℤ over_of s) (fall : ℤ) (linear : share fall (over_of s) ≡ slope_at s Linear j d) where
   pub stays : pos 0 ≤ℤ fall → ¬ falls_at s j d

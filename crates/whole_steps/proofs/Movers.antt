@@ -34,7 +34,7 @@ turned-times Up x y = refl
 turned-times Down x y = ring_ℚ (x ∷ y ∷ []) (negated (v0 ⊠ v1)) (negated v0 ⊠ v1) refl
 turned-times Basic x y = refl
 
-nonzero : (d : ℤ) → pos 1 ≤ℤ d → d ≢ pos 0
+pub nonzero : (d : ℤ) → pos 1 ≤ℤ d → d ≢ pos 0
 nonzero d h e = omega (arith, ints)
 
 -- the side that was read

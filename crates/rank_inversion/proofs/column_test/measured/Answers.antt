@@ -1,11 +1,11 @@
 use Rattle.std.proofs.Common.{subst, inl, inr}
 use Rattle.std.proofs.lemmas.Result.{err_from_is_err_and}
+use Rattle.fraction_tableau.proofs.Refusals.{short_weaker}
 use Rattle.rational_laws.specs.Fraction.{rational}
 use Rattle.loss_model.specs.Problem.{value_at, sample}
 use Rattle.basis_inverse.specs.Square.{inverse_entry}
 use Rattle.rank_inversion.specs.GramStops.{IsBoundSpill, IsTestSpill}
 use Rattle.rank_inversion.specs.Grams.{IsProjectingSpill}
-use Rattle.rank_inversion.proofs.Operations.{short_weaker}
 use Rattle.rank_inversion.proofs.Projections.{length_by}
 use Rattle.rank_inversion.proofs.column_test.measured.Goals as goal
 

@@ -1,9 +1,9 @@
 use Rattle.std.proofs.Common.{slice_index}
 use Rattle.std.proofs.lemmas.Result.{err_from_is_err_and}
+use Rattle.fraction_tableau.proofs.Refusals.{short_weaker}
 use Rattle.rational_laws.proofs.Lists.{contains_item}
 use Rattle.loss_model.specs.Spill.{AtSome}
 use Rattle.rank_inversion.specs.Nexts.{IsSpillHere, IsWeighingSpill, IsRaySpill}
-use Rattle.rank_inversion.proofs.Operations.{short_weaker}
 use Rattle.rank_inversion.proofs.StationLaws.{break_some, break_spill, ray_spill, values_there, endless_is}
 use Rattle.rank_inversion.proofs.station.Station.endless.Goals as goal
 

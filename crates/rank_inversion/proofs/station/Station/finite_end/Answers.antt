@@ -1,9 +1,9 @@
 use Rattle.std.proofs.Common.{slice_index}
 use Rattle.std.proofs.lemmas.Result.{err_from_is_err_and}
+use Rattle.fraction_tableau.proofs.Refusals.{short_weaker}
 use Rattle.rational_laws.proofs.Lists.{contains_item}
 use Rattle.loss_model.specs.Spill.{AtSome}
 use Rattle.rank_inversion.specs.Nexts.{IsSpillHere, IsWeighingSpill}
-use Rattle.rank_inversion.proofs.Operations.{short_weaker}
 use Rattle.rank_inversion.proofs.StationLaws.{coef_read, break_spill, entered_spill, values_there, values_entered, finite_end_is}
 use Rattle.rank_inversion.proofs.station.Station.finite_end.Goals as goal
 

@@ -6,9 +6,9 @@ use Rattle.frac_core.specs.declared.exact.OpKind.TheVariants.{Mul}
 use Rattle.loss_model.specs.declared.spill.Quantity.TheVariants.{Statistic}
 use Rattle.loss_model.specs.Spill.{site_of}
 use Rattle.fraction_tableau.specs.Lines.{IsOrderSpill}
+use Rattle.fraction_tableau.proofs.Refusals.{short_weaker}
 use Rattle.rank_inversion.specs.Nexts.{IsSpillHere}
 use Rattle.rank_inversion.specs.Stations.{sample_at, rows_at, entries_at}
-use Rattle.rank_inversion.proofs.Operations.{short_weaker}
 use Rattle.rank_inversion.proofs.StationLaws.{crossings_spill, square_spill, past_here, stuck_here, step_here, order_spill}
 use Rattle.rank_inversion.proofs.station.Station.found.Goals as goal
 
