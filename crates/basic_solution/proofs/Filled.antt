@@ -8,7 +8,7 @@ use Rattle.rational_laws.proofs.Lists.{pushed_before, pushed_last}
 use Rattle.loss_model.specs.declared.vertex.Side.{Side}
 use Rattle.loss_model.specs.declared.vertex.Side.TheVariants.{Basic}
 use Rattle.loss_model.specs.Problem.{value_at}
-use Rattle.basic_solution.specs.Bases.{side_in}
+use Rattle.loss_model.specs.Sides.{side_in}
 
 -- there are n items, and what is read at each place is what is wanted there
 abbrev pub IsFilled : {X Y : Type 0} → (List X → ℕ → Y) → (ℕ → Y) → List X → ℕ → Type 0

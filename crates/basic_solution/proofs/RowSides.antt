@@ -1,8 +1,8 @@
 -- The side of a row, by its place in the basis and by its residual.
-use Rattle.std.specs.Prelude.{◌≡◌, ◌≢◌, ℕ, zero, suc, ◌<◌, Bool, true, false, if◌then◌else◌, ◌==◌, ◌||◌, List, [], ◌∷◌, length, slice_index, pos}
+use Rattle.std.specs.Prelude.{◌≡◌, ℕ, zero, suc, Bool, true, false, if◌then◌else◌, ◌==◌, ◌||◌, List, [], ◌∷◌, length, slice_index, pos}
 use Rattle.std.specs.List.{list_any}
 use Rattle.std.specs.declared.cmp.Ordering.TheVariants.{Less, Greater}
-use Rattle.std.proofs.Common.{arith, refl, sym, ap, ap₂, ◌∙◌}
+use Rattle.std.proofs.Common.{refl, sym, ap, ap₂, ◌∙◌}
 use borrow.Author.Tests.{eqb-true, eqb-false, eq-eqb, ne_eqb}
 use Rattle.rational_laws.specs.Rational.{whole}
 use Rattle.rational_laws.specs.Order.{cmp_ℚ}
@@ -43,19 +43,6 @@ any_among (y ∷ xs) i =
     by : (t z : Bool) → (t || z) ≡ (if t then true else z)
     by true z = refl
     by false z = refl
-
--- a row that isn't among the listed ones is none of them
-pub apart_from : (at : ℕ → ℕ) (n i : ℕ) → is_among at n i ≡ false → (j : ℕ) → j < n → at j ≢ i
-apart_from at zero i h j l = absurd (omega arith)
-apart_from at (suc n) i h j l = by (i == at n) refl (λ e. apart_from at n i e j)
-  where
-    by : (t : Bool) → (i == at n) ≡ t → (is_among at n i ≡ false → j < n → at j ≢ i) → at j ≢ i
-    by true e ih = absurd (cc (sym (ap (λ t. if t then true else is_among at n i) e) ∙ h))
-    by false e ih = last (j == n) refl
-      where
-        last : (t : Bool) → (j == n) ≡ t → at j ≢ i
-        last true f s = eqb-false i (at n) e (sym s ∙ ap at (eqb-true j n f))
-        last false f s = let other : j ≢ n = eqb-false j n f in ih (sym (ap (λ t. if t then true else is_among at n i) e) ∙ h) (omega arith) s
 
 -- ---- the side by the residual
 

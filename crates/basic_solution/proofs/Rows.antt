@@ -1,7 +1,7 @@
 -- Rows of a problem that were read.
-use Rattle.std.specs.Prelude.{◌≡◌, ℕ, zero, suc, ◌<◌, List, [], ◌∷◌, length, get_or, slice_get, Option, Some, pos}
+use Rattle.std.specs.Prelude.{◌≡◌, ℕ, ◌<◌, List, length, get_or, slice_get, Option, Some, pos}
 use Rattle.std.specs.Option.{option_map_or}
-use Rattle.std.proofs.Common.{arith, refl, sym, ap, subst, ◌∙◌}
+use Rattle.std.proofs.Common.{refl, sym, ap, subst, ◌∙◌}
 use Rattle.std.proofs.lemmas.Option.{slice_get_read}
 use Rattle.rational_laws.specs.Fraction.{Fraction, rational}
 use Rattle.rational_laws.specs.Rational.{ℚ, neg_ℚ, whole}
@@ -14,7 +14,7 @@ use Rattle.basis_inverse.specs.Square.{entries}
 use Rattle.basis_model.specs.declared.part.Part.{Part}
 use Rattle.basis_model.specs.declared.part.Part.TheVariants.{Constant, Linear}
 use Rattle.basis_model.specs.Basis.{bound_part}
-use Rattle.basic_solution.specs.Bases.{bound_of, side_in}
+use Rattle.basic_solution.specs.Bases.{bound_of}
 
 module _ {F : Type 0} (value : F → Fraction) (p : Problem F) (i : ℕ) (r : Row F) (within : i < length p.rows) (is : r ≡ get_or p.rows i r) where
   -- a number of the row
@@ -45,9 +45,3 @@ module _ {F : Type 0} (value : F → Fraction) (p : Problem F) (i : ℕ) (r : Ro
 -- what holds of the values of a list that stands at a place holds of that list in the matrix
 pub at_list : {F : Type 0} (value : F → Fraction) (P : (ℕ → ℚ) → Type 0) (lists : List (List F)) (j : ℕ) (xs : List F) → slice_get lists j ≡ Some xs → P (value_at value xs) → P (entries value lists j)
 at_list {F} value P lists j xs is h = subst (λ (o : Option (List F)). P (λ k. option_map_or (λ xs. value_at value xs k) o (whole (pos 0)))) (sym is) h
-
--- the side that was read at a place
-pub side_read : (sides : List Side) (i : ℕ) (d : Side) → i < length sides → get_or sides i d ≡ side_in sides i
-side_read [] i d l = absurd (omega arith)
-side_read (s ∷ sides) zero d l = refl
-side_read (s ∷ sides) (suc i) d l = side_read sides i d (omega arith)

@@ -1,5 +1,5 @@
 -- Inner. What the quantities at a basis are computed from.
-use Rattle.std.specs.Prelude.{◌≡◌, ℕ, List, length, slice_get, slice_index, unwrap_or, pos}
+use Rattle.std.specs.Prelude.{◌≡◌, ℕ, List, length, slice_index, pos}
 use Rattle.rational_laws.specs.Fraction.{Fraction, rational}
 use Rattle.rational_laws.specs.Rational.{ℚ, neg_ℚ, whole}
 use Rattle.rational_laws.specs.Selections.{AreDistinct}
@@ -21,10 +21,6 @@ pub record HasBasis {F : Type 0} (p : Problem F) (inverse : Square F) (basis : L
   pub size : length inverse.columns ≡ p.columns
   pub same : length basis ≡ p.columns
   pub distinct : AreDistinct (slice_index basis) p.columns (length p.rows)
-
--- the side of row i
-abbrev pub side_in : List Side → ℕ → Side
-side_in sides i = unwrap_or (slice_get sides i) Basic
 
 -- a part of the dual value of this row on a side
 abbrev pub bound_of : {F : Type 0} → (F → Fraction) → Row F → Part → Side → ℚ

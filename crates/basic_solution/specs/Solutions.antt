@@ -13,7 +13,7 @@ use Rattle.basis_model.specs.BasisSpills.{IsTotalSpill, IsBalancingSpill}
 use Rattle.basic_solution.specs.declared.solution.BasicSolution.{BasicSolution}
 use Rattle.basic_solution.specs.declared.solution.Duals.{Duals}
 use Rattle.basic_solution.specs.declared.solution.Primal.{Primal}
-use Rattle.basic_solution.specs.Bases.{side_in}
+use Rattle.loss_model.specs.Sides.{side_in}
 
 -- the solution has the coefficients, residuals, sides and both parts of the basic dual values that stand at the basis
 pub record IsSolution {F : Type 0} (value : F → Fraction) (p : Sample) (at : ℕ → ℕ) (a : ℕ → ℕ → ℚ) (s : BasicSolution F) : Type 0 where

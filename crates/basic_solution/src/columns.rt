@@ -5,7 +5,8 @@ ghost use Rattle.loss_model.specs.Problem.{value_at, sample, IsWellShaped};
 ghost use Rattle.loss_model.specs.Quantities.{IsShortOf};
 ghost use Rattle.basis_model.specs.Basis.{nonbasic_total};
 ghost use Rattle.basis_model.specs.BasisSpills.{is_basic as basic_test, IsTotalSpill};
-ghost use Rattle.basic_solution.specs.Bases.{bound_of, side_in, IsTotalsSpill};
+ghost use Rattle.loss_model.specs.Sides.{side_in};
+ghost use Rattle.basic_solution.specs.Bases.{bound_of, IsTotalsSpill};
 
 use basis_model::Part;
 use frac_core::{Exact, List};

@@ -7,7 +7,8 @@ ghost use Rattle.loss_model.specs.Quantities.{IsShortOf, IsCoordinatesSpill};
 ghost use Rattle.basis_inverse.specs.Square.{inverse_entry};
 ghost use Rattle.basis_model.specs.Perturbed.{perturbed_side as side_by_order};
 ghost use Rattle.basis_model.specs.Basis.{coefficient, outside_row, side_at};
-ghost use Rattle.basic_solution.specs.Bases.{HasBasis, side_in, IsRowsSpill};
+ghost use Rattle.loss_model.specs.Sides.{side_in};
+ghost use Rattle.basic_solution.specs.Bases.{HasBasis, IsRowsSpill};
 
 use crate::coordinates::row_coordinates;
 use crate::station::Station;

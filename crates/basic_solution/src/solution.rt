@@ -5,7 +5,8 @@ ghost use Rattle.loss_model.specs.Quantities.{IsShortOf};
 ghost use Rattle.basis_inverse.specs.Square.{inverse_entry, IsInverse};
 ghost use Rattle.basis_model.specs.Basis.{side_at, basic_dual};
 ghost use Rattle.basis_model.specs.BasisSpills.{IsBasisSpill};
-ghost use Rattle.basic_solution.specs.Bases.{HasBasis, side_in};
+ghost use Rattle.loss_model.specs.Sides.{side_in};
+ghost use Rattle.basic_solution.specs.Bases.{HasBasis};
 ghost use Rattle.basic_solution.specs.Solutions.{IsPrimal, AreDuals, IsSolution, IsDualSpill};
 
 use crate::columns::totals;

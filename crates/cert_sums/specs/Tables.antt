@@ -1,5 +1,5 @@
 -- Inner. A problem in whole numbers.
-use Rattle.std.specs.Prelude.{◌≡◌, ℕ, ◌<◌, ◌≤◌, ◌+◌, List, length, slice_get, Some, All, pos, unsigned_abs}
+use Rattle.std.specs.Prelude.{◌≡◌, ℕ, ◌<◌, ◌≤◌, ◌+◌, length, All, pos, unsigned_abs}
 use Rattle.rational_laws.specs.Fraction.{rational}
 use Rattle.rational_laws.specs.Rational.{ℚ, ◌*ℚ◌, neg_ℚ, whole}
 use Rattle.frac_core.specs.declared.frac128.Frac128.{Frac128}
@@ -8,6 +8,7 @@ use Rattle.loss_model.specs.declared.problem.Row.{Row}
 use Rattle.loss_model.specs.declared.problem.Problem.{Problem}
 use Rattle.loss_model.specs.Problem.{value_at}
 use Rattle.rational_laws.specs.WholeLists.{whole_at}
+use Rattle.rational_laws.specs.Pairs.{ArePaired}
 use Rattle.cert_sums.specs.declared.table.Line.{Line}
 use Rattle.cert_sums.specs.declared.table.WholeRow.{WholeRow}
 use Rattle.cert_sums.specs.declared.table.Table.{Table}
@@ -35,10 +36,6 @@ pub record IsSmallRow (limit cost_limit : ℕ) (w : WholeRow) : Type 0 where
   pub cells : All (λ e. unsigned_abs e ≤ limit) w.cells
   pub up : IsSmallLine cost_limit w.up
   pub low : IsSmallLine cost_limit w.low
-
--- items of the same index are related
-abbrev pub ArePaired : {A B : Type 0} → (A → B → Type 0) → List A → List B → Type 0
-ArePaired {A} {B} R xs ys = (i : ℕ) (x : A) (y : B) → slice_get xs i ≡ Some x → slice_get ys i ≡ Some y → R x y
 
 -- a table is the problem in whole numbers, all of them within its limits
 pub record IsTable (p : Problem Frac128) (t : Table) : Type 0 where

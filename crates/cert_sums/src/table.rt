@@ -5,7 +5,8 @@ ghost use Rattle.rational_laws.specs.Rational.{◌*ℚ◌, whole};
 ghost use Rattle.frac_core.specs.Values.{value as value128};
 ghost use Rattle.loss_model.specs.Problem.{value_at};
 ghost use Rattle.rational_laws.specs.WholeLists.{whole_at};
-ghost use Rattle.cert_sums.specs.Tables.{ArePaired, IsLine, IsSmallLine, IsRowOf, IsSmallRow, IsTable};
+ghost use Rattle.rational_laws.specs.Pairs.{ArePaired};
+ghost use Rattle.cert_sums.specs.Tables.{IsLine, IsSmallLine, IsRowOf, IsSmallRow, IsTable};
 
 use crate::scale::{common_multiple, multiple, scaled};
 use frac_core::{Exact, Frac128, List};

@@ -129,7 +129,7 @@ kept_above table model coding weights sound =
 
 -- columns
 
-wide : (v : CodedVariable) → level_fault v ≡ None → 1 ≤ width v
+pub wide : (v : CodedVariable) → level_fault v ≡ None → 1 ≤ width v
 wide v h = by (width v) (if_none (width v == 0) (OneLevel v.name) h)
   where
     by : (n : ℕ) → (n == 0) ≡ false → 1 ≤ n

@@ -1,7 +1,7 @@
 -- Terms without a fault have columns, and few levels.
 use Rattle.std.proofs.Common.{◌≡◌, ◌≤◌, ℕ, ◌+◌, ◌*◌, Bool, true, false, List, [], ◌∷◌, Option, Some, None, Vec, All, cond, length, map, nat_eq, eq-eqb, refl, sym, ap, ◌∙◌, arith, length-append}
 use Rattle.std.proofs.Math.Nat.{mul-le-mul_left}
-use Rattle.std.proofs.lemmas.Bool.{eqb-false, eqb-true}
+use Rattle.std.proofs.lemmas.Bool.{eqb-true}
 use Rattle.std.proofs.lemmas.List.Elements.{All-cons, All-nil}
 use Rattle.std.specs.List.{flat_map}
 use Rattle.std.specs.Option.{option_or}
@@ -21,6 +21,7 @@ use Rattle.design_matrix.specs.Parts.{count, term_columns}
 use Rattle.design_matrix.specs.Views.{coded_seen, terms_seen, values_seen}
 use Rattle.design_matrix.specs.Widths.{IsUsable, levels_held, width_held}
 use Rattle.design_matrix.proofs.Counts.{length-term_columns}
+use Rattle.design_matrix.proofs.Shapes.{wide}
 
 none_left : {B : Type 0} (a b : Option B) → option_or a b ≡ None → a ≡ None
 none_left None b e = refl
@@ -39,13 +40,6 @@ level_none v h = at (nat_eq (width v) 0) refl
     at : (b : Bool) → nat_eq (width v) 0 ≡ b → level_fault v ≡ None
     at true e = absurd (h (eqb-true (width v) 0 e))
     at false e = ap (λ b. cond b (Some (OneLevel v.name)) None) e
-
-has_width : (v : CodedVariable) → level_fault v ≡ None → 1 ≤ width v
-has_width v e = at (nat_eq (width v) 0) refl
-  where
-    at : (b : Bool) → nat_eq (width v) 0 ≡ b → 1 ≤ width v
-    at true f = absurd (cc (sym e ∙ level_found v v.name (eqb-true (width v) 0 f) refl))
-    at false f = let h : width v ≡ 0 → ⊥ = eqb-false (width v) 0 f in omega arith
 
 width_same : (coding : Coding) (values : Values) → width_in coding (values_seen values) ≡ width_held coding values
 width_same coding (Numbers cells records) = refl
@@ -70,7 +64,7 @@ product_right a b n h k = let p : b * 1 ≤ b * a = mul-le-mul_left b h in omega
 count_some : (vs : List CodedVariable) → first_some level_fault vs ≡ None → 1 ≤ count vs
 count_some [] e = omega arith
 count_some (v ∷ vs) e =
-    some_product (width v) (count vs) (has_width v (none_left (level_fault v) (first_some level_fault vs) e))
+    some_product (width v) (count vs) (wide v (none_left (level_fault v) (first_some level_fault vs) e))
     (count_some vs (none_right (level_fault v) (first_some level_fault vs) e))
 
 variables_usable : (vs : List Held) → first_some level_fault (map coded_seen vs) ≡ None → count (map coded_seen vs) ≤ 128 → All IsUsable vs
@@ -78,7 +72,7 @@ variables_usable [] e h = All-nil IsUsable
 variables_usable (v ∷ vs) e h =
     let mine : level_fault (coded_seen v) ≡ None = none_left (level_fault (coded_seen v)) (first_some level_fault (map coded_seen vs)) e in
     let others : first_some level_fault (map coded_seen vs) ≡ None = none_right (level_fault (coded_seen v)) (first_some level_fault (map coded_seen vs)) e in
-    let wide : 1 ≤ width (coded_seen v) = has_width (coded_seen v) mine in
+    let wide : 1 ≤ width (coded_seen v) = wide (coded_seen v) mine in
     let more : 1 ≤ count (map coded_seen vs) = count_some (map coded_seen vs) others in
     let few : width (coded_seen v) ≤ 128 = product_left (width (coded_seen v)) (count (map coded_seen vs)) 128 more h in
     let rest : count (map coded_seen vs) ≤ 128 = product_right (width (coded_seen v)) (count (map coded_seen vs)) 128 wide h in

@@ -23,7 +23,7 @@ use Rattle.loss_model.specs.Spill.{abs_ℚ, site_of}
 use Rattle.basis_model.specs.Perturbed.{turned, perturbed_side}
 use Rattle.basis_model.proofs.Ratios.{abs_nonzero}
 use Rattle.basis_model.specs.Basis.{coord, outside_row, side_at}
-use Rattle.basic_solution.specs.Bases.{side_in}
+use Rattle.loss_model.specs.Sides.{side_in}
 use Rattle.pivot_model.specs.declared.direction.Direction.{Direction}
 use Rattle.pivot_model.specs.declared.direction.Direction.TheVariants.{Upward, Downward}
 use Rattle.pivot_model.specs.Steps.{is_towards, change, moves}

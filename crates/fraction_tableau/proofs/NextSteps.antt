@@ -15,7 +15,8 @@ use Rattle.basis_model.specs.declared.part.Part.TheVariants.{Linear}
 use Rattle.basis_model.specs.Basis.{coord, side_at, basic_dual, dual_value}
 use Rattle.basis_model.specs.BasisSpills.{IsBasisSpill, IsDualValueSpill}
 use Rattle.basic_solution.specs.declared.solution.BasicSolution.{BasicSolution}
-use Rattle.basic_solution.specs.Bases.{side_in, IsColumnSpill}
+use Rattle.loss_model.specs.Sides.{side_in}
+use Rattle.basic_solution.specs.Bases.{IsColumnSpill}
 use Rattle.basic_solution.specs.Solutions.{IsSolution}
 use Rattle.pivot_model.specs.Steps.{slope, IsEntering}
 use Rattle.pivot_model.specs.Spills.{IsStepSpill, of_basis, of_dual}

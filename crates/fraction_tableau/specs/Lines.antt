@@ -12,7 +12,7 @@ use Rattle.basis_inverse.specs.Square.{inverse_entry}
 use Rattle.basis_model.specs.Basis.{coord, coefficient, outside_row, side_at}
 use Rattle.lex_rule.specs.declared.less.Ratio.{Ratio}
 use Rattle.lex_rule.specs.Compared.{of_ratio, IsRatioAt}
-use Rattle.basic_solution.specs.Bases.{side_in}
+use Rattle.loss_model.specs.Sides.{side_in}
 use Rattle.loss_model.specs.declared.vertex.Side.{Side}
 use Rattle.pivot_model.specs.declared.direction.Direction.{Direction}
 use Rattle.pivot_model.specs.declared.direction.Direction.TheVariants.{Upward, Downward}

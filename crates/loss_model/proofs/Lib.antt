@@ -11,3 +11,4 @@ pub mod Residuals
 pub mod Prices
 pub mod Narrowed
 pub mod Widened
+pub mod Sides

@@ -10,12 +10,12 @@ use Rattle.rational_laws.proofs.Inverses.{*ℚ_cancel}
 use Rattle.rational_laws.proofs.OrderLaws.{≤ℚ-from_mul}
 use Rattle.rational_laws.proofs.Quotients.{denominator-times}
 
-whole_nonzero : (n : ℕ) → 1 ≤ n → whole (pos n) ≡ whole (pos 0) → ⊥
-whole_nonzero n h e = absurd (omega (arith, ints, same_from_whole (pos n) (pos 0) e))
+pub whole_some : (n : ℕ) → 1 ≤ n → whole (pos n) ≢ whole (pos 0)
+whole_some n h e = absurd (omega (arith, ints, same_from_whole (pos n) (pos 0) e))
 
 -- a positive whole number times its inverse is 1
 pub inverse_of : (n : ℕ) → 1 ≤ n → whole (pos n) *ℚ inverse (whole (pos n)) ≡ whole (pos 1)
-inverse_of n h = *ℚ-inverse (whole (pos n)) (whole_nonzero n h)
+inverse_of n h = *ℚ-inverse (whole (pos n)) (whole_some n h)
 
 -- c is d times c/d
 pub whole-quotient : (c : ℤ) (d : ℕ) → 1 ≤ d → whole c ≡ whole (pos d) *ℚ quotient c d
@@ -26,7 +26,7 @@ whole-sub a b = whole-add a (neg_ℤ b) ∙ ap (λ z. whole a +ℚ z) (whole-neg
 
 -- a positive whole number can be taken away from both sides
 pub cancel_whole : (n : ℕ) (x y : ℚ) → 1 ≤ n → whole (pos n) *ℚ x ≡ whole (pos n) *ℚ y → x ≡ y
-cancel_whole n x y h e = *ℚ_cancel x y (whole (pos n)) (whole_nonzero n h) e
+cancel_whole n x y h e = *ℚ_cancel x y (whole (pos n)) (whole_some n h) e
 
 pub cancel_whole_le : (n : ℕ) (x y : ℚ) → 1 ≤ n → (whole (pos n) *ℚ x) ≤ℚ (whole (pos n) *ℚ y) → x ≤ℚ y
 cancel_whole_le n x y h e = ≤ℚ-from_mul x y (whole (pos n)) (λ below. absurd (omega (arith, ints, le_from_whole (pos n) (pos 0) below))) e

@@ -18,3 +18,4 @@ pub mod Sign
 pub use Rattle.rational_laws.specs.Matrices
 pub use Rattle.rational_laws.specs.Selections
 pub use Rattle.frac_core.specs.declared.exact.OpKind
+pub mod Sides

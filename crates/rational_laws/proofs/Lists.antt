@@ -1,7 +1,8 @@
 -- Lists by place: the items there, and what one item more leaves as it was.
-use Rattle.std.proofs.Common.{◌≡◌, ◌<◌, ◌+◌, ℕ, zero, suc, List, [], ◌∷◌, ◌++◌, length, map, replicate, take, get_or, slice_get, slice_index, Contains, Some, arith, refl, sym, ap, ap₂, ◌∙◌, append_assoc, inl, inr}
+use Rattle.std.proofs.Common.{◌≡◌, ◌<◌, ◌+◌, ℕ, zero, suc, List, [], ◌∷◌, ◌++◌, length, map, replicate, take, get_or, slice_get, slice_index, Contains, Some, arith, refl, sym, ap, ap₂, subst, ◌∙◌, append_assoc, inl, inr}
 use Rattle.std.proofs.lemmas.List.{map-append, take_more}
-use Rattle.std.proofs.lemmas.Option.{slice_get_cases, slice_get-get_or}
+use Rattle.std.proofs.lemmas.Option.{none-some, same_Some, slice_get_cases, slice_get-get_or}
+use Rattle.rational_laws.specs.Pairs.{ArePaired}
 
 pub item_at : {X : Type 0} (xs : List X) (i : ℕ) → i < length xs → (x : X) × (slice_get xs i ≡ Some x) × (get_or xs i x ≡ x)
 item_at xs i l = elim (slice_get_cases xs i).1 [ inl w ↦ (w.0, w.2, w.3) | inr h ↦ absurd (omega arith) ]
@@ -44,3 +45,11 @@ same_lists show one [] [] h = refl
 same_lists show one [] (y ∷ ys) h = absurd (cc h)
 same_lists show one (x ∷ xs) [] h = absurd (cc h)
 same_lists show one (x ∷ xs) (y ∷ ys) h = ap₂ (λ z zs. z ∷ zs) (one x y (cc h)) (same_lists show one xs ys (cc h))
+
+-- lists that are related item by item, with one item more
+pub paired_pushed : {A B : Type 0} (R : A → B → Type 0) (xs : List A) (ys : List B) (x : A) (y : B) → slice_get xs (length ys) ≡ Some x → R x y → ArePaired R xs ys → ArePaired R xs (ys ++ y ∷ [])
+paired_pushed R [] ys x y e r h i a b ea eb = absurd (none-some a ea)
+paired_pushed R (z ∷ xs) [] x y e r h zero a b ea eb = subst (λ b. R a b) (same_Some y b eb) (subst (λ a. R a y) (sym (same_Some z x e) ∙ same_Some z a ea) r)
+paired_pushed R (z ∷ xs) [] x y e r h (suc i) a b ea eb = absurd (none-some b eb)
+paired_pushed R (z ∷ xs) (w ∷ ys) x y e r h zero a b ea eb = h 0 a b ea eb
+paired_pushed R (z ∷ xs) (w ∷ ys) x y e r h (suc i) a b ea eb = paired_pushed R xs ys x y e r (λ i a b. h (suc i) a b) i a b ea eb

@@ -20,6 +20,19 @@ not_among at (suc n) i h =
     ap (λ t. if t then true else is_among at n i) (ne_eqb i (at n) (λ e. h n (omega arith) (sym e)))
     ∙ not_among at n i (λ j l. h j (omega arith))
 
+-- a row that isn't among the listed ones is none of them
+pub apart_from : (at : ℕ → ℕ) (n i : ℕ) → is_among at n i ≡ false → (j : ℕ) → j < n → at j ≢ i
+apart_from at zero i h j l = absurd (omega arith)
+apart_from at (suc n) i h j l = by (i == at n) refl (λ e. apart_from at n i e j)
+  where
+    by : (t : Bool) → (i == at n) ≡ t → (is_among at n i ≡ false → j < n → at j ≢ i) → at j ≢ i
+    by true e ih = absurd (cc (sym (ap (λ t. if t then true else is_among at n i) e) ∙ h))
+    by false e ih = last (j == n) refl
+      where
+        last : (t : Bool) → (j == n) ≡ t → at j ≢ i
+        last true f s = eqb-false i (at n) e (sym s ∙ ap at (eqb-true j n f))
+        last false f s = let other : j ≢ n = eqb-false j n f in ih (sym (ap (λ t. if t then true else is_among at n i) e) ∙ h) (omega arith) s
+
 fewer : (at : ℕ → ℕ) (n rows : ℕ) → AreDistinct at (suc n) rows → AreDistinct at n rows
 fewer at n rows d = record { within = λ j l. d.within j (omega arith); apart = λ j k l m. d.apart j k l (omega arith) }
 

@@ -15,3 +15,4 @@ pub mod Matrices
 pub mod Exchange
 pub mod Spans
 pub mod Selections
+pub mod Pairs

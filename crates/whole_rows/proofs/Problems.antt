@@ -13,7 +13,8 @@ use Rattle.rational_laws.specs.WholeLists.{whole_at}
 use Rattle.whole_rows.specs.Scaled.{IsScaled}
 use Rattle.whole_rows.specs.declared.factor.Factor.{Factor}
 use Rattle.whole_rows.specs.declared.rows.WholeRow.{WholeRow}
-use Rattle.whole_rows.specs.Wholes.{factor_value, factor_at, IsPositive, IsWholeRow, ArePaired, sample_of_rows}
+use Rattle.rational_laws.specs.Pairs.{ArePaired}
+use Rattle.whole_rows.specs.Wholes.{factor_value, factor_at, IsPositive, IsWholeRow, sample_of_rows}
 use Rattle.whole_rows.proofs.WholeValues.{positive_share}
 use Rattle.whole_rows.proofs.Pairs.{paired_read}
 

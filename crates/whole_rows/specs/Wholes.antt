@@ -1,5 +1,5 @@
 -- Inner. Rows in whole numbers, as the sample that they are.
-use Rattle.std.specs.Prelude.{◌≡◌, ℕ, ◌<◌, ◌≤ℤ◌, List, length, slice_get, Some, pos}
+use Rattle.std.specs.Prelude.{◌≡◌, ℕ, ◌<◌, ◌≤ℤ◌, List, length, slice_get, pos}
 use Rattle.std.specs.Option.{option_map_or}
 use Rattle.rational_laws.specs.Fraction.{Fraction, rational}
 use Rattle.rational_laws.specs.Rational.{ℚ, ◌*ℚ◌, whole}
@@ -32,10 +32,6 @@ pub record IsWholeRow {F : Type 0} (value : F → Fraction) (factors : List Fact
   pub up1 : whole w.up1 ≡ factor_value fc *ℚ rational (value r.up1)
   pub down0 : whole w.down0 ≡ factor_value fc *ℚ rational (value r.down0)
   pub down1 : whole w.down1 ≡ factor_value fc *ℚ rational (value r.down1)
-
--- items of the same index are related
-abbrev pub ArePaired : {A B : Type 0} → (A → B → Type 0) → List A → List B → Type 0
-ArePaired {A} {B} R xs ys = (i : ℕ) (x : A) (y : B) → slice_get xs i ≡ Some x → slice_get ys i ≡ Some y → R x y
 
 -- a number of row i, or 0 beyond the last row
 abbrev pub of_whole : List WholeRow → (WholeRow → ℚ) → ℕ → ℚ

@@ -5,7 +5,8 @@ ghost use Rattle.rational_laws.specs.Rational.{◌*ℚ◌, ◌≤ℚ◌, whole};
 ghost use Rattle.loss_model.specs.Problem.{sample, value_at, IsWellShaped};
 ghost use Rattle.rational_laws.specs.WholeLists.{whole_at};
 ghost use Rattle.whole_rows.specs.Scaled.{IsScaled};
-ghost use Rattle.whole_rows.specs.Wholes.{factor_value, factor_at, IsPositive, IsWholeRow, ArePaired, whole_sample};
+ghost use Rattle.rational_laws.specs.Pairs.{ArePaired};
+ghost use Rattle.whole_rows.specs.Wholes.{factor_value, factor_at, IsPositive, IsWholeRow, whole_sample};
 
 use crate::factor::{Factor, plain_factor, reduced_factor, whole_value};
 use frac_core::{Exact, List};

@@ -8,7 +8,7 @@ use Rattle.loss_model.specs.declared.vertex.Side.{Side}
 use Rattle.loss_model.specs.declared.vertex.Side.TheVariants.{Basic}
 use Rattle.loss_model.specs.Sample.{Sample}
 use Rattle.basis_model.specs.Basis.{side_at}
-use Rattle.whole_solution.specs.Standing.{side_in}
+use Rattle.loss_model.specs.Sides.{side_in}
 use Rattle.whole_solution.proofs.Made.{basic_by}
 
 pub length_put : (xs : List Side) (r : ℕ) (s : Side) → length (slice_set xs r s) ≡ length xs

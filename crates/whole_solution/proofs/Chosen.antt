@@ -11,7 +11,7 @@ use Rattle.pivot_model.proofs.Among.{among_place}
 use Rattle.whole_inverse.specs.Shares.{share, share_at}
 use Rattle.whole_solution.specs.declared.near.Near.{Near}
 use Rattle.whole_solution.specs.declared.ranges.Ranges.{Ranges}
-use Rattle.whole_solution.specs.Standing.{side_in}
+use Rattle.loss_model.specs.Sides.{side_in}
 use Rattle.whole_solution.specs.Far.{reaching, room, AreOthersFar, IsChosen, IsFarOn, IsListed, IsNear, IsNearOrFar}
 use Rattle.whole_solution.specs.Ranges.{AreRanges}
 use Rattle.whole_solution.proofs.Keeping.{keeps_on}

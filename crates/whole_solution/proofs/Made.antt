@@ -6,7 +6,6 @@ use Rattle.rational_laws.proofs.RationalSumLaws.{sum_ℚ-same}
 use Rattle.rational_laws.specs.Order.{cmp_ℚ}
 use Rattle.rational_laws.specs.Matrices.{coordinate}
 use Rattle.rational_laws.specs.Selections.{is_among}
-use Rattle.pivot_model.proofs.Among.{among_at}
 use Rattle.loss_model.specs.declared.vertex.Side.TheVariants.{Up, Basic}
 use Rattle.loss_model.specs.Sample.{Sample, residual}
 use Rattle.basis_model.specs.Perturbed.{IsOutside, perturbed_side, side_of}
@@ -67,10 +66,3 @@ basic_by p at a i h = sym (ap (λ t. if t then Basic else perturbed_side p.rows 
 
 pub outside_by : (p : Sample) (at : ℕ → ℕ) (a : ℕ → ℕ → ℚ) (i : ℕ) → is_among at p.columns i ≡ false → perturbed_side p.rows p.columns at (outside_row p at a i) ≡ side_at p at a i
 outside_by p at a i h = sym (ap (λ t. if t then Basic else perturbed_side p.rows p.columns at (outside_row p at a i)) h)
-
--- a row that isn't among the listed ones is none of them
-pub apart_from : (at : ℕ → ℕ) (n i : ℕ) → is_among at n i ≡ false → (j : ℕ) → j < n → at j ≢ i
-apart_from at n i h j lj e = no (sym (among_at at n j lj) ∙ ap (is_among at n) e ∙ h)
-  where
-    no : true ≡ false → ⊥
-    no h = cc

@@ -10,7 +10,8 @@ use Rattle.loss_model.specs.Sample.{Sample}
 use Rattle.basis_model.specs.Basis.{side_at}
 use Rattle.whole_solution.specs.declared.near.Near.{Near}
 use Rattle.whole_solution.specs.declared.solution.Joint.{Joint}
-use Rattle.whole_solution.specs.Standing.{side_in, both_of, IsPast}
+use Rattle.loss_model.specs.Sides.{side_in}
+use Rattle.whole_solution.specs.Standing.{both_of, IsPast}
 use Rattle.whole_solution.specs.Far.{IsFarOn, IsListed, IsNear, IsNearOrFar}
 use Rattle.whole_solution.proofs.Chosen.{with_basis}
 

@@ -7,7 +7,7 @@ use Rattle.rational_laws.specs.Selections.{is_among}
 use Rattle.loss_model.specs.declared.vertex.Side.{Side}
 use Rattle.loss_model.specs.Sample.{Sample}
 use Rattle.basis_model.specs.Basis.{side_at}
-use Rattle.whole_solution.specs.Standing.{side_in}
+use Rattle.loss_model.specs.Sides.{side_in}
 use Rattle.whole_solution.specs.Far.{IsListed}
 use Rattle.whole_solution.proofs.Basics.{length_put, put_same, put_other}
 

@@ -15,7 +15,7 @@ use Rattle.loss_model.specs.declared.vertex.Side.TheVariants.{Up, Down, Basic}
 use Rattle.basis_model.specs.declared.part.Part.{Part}
 use Rattle.basis_model.specs.declared.part.Part.TheVariants.{Constant, Linear}
 use Rattle.basis_model.specs.Basis.{bound_part}
-use Rattle.whole_solution.specs.Standing.{side_in}
+use Rattle.loss_model.specs.Sides.{side_in}
 use Rattle.whole_solution.specs.Weighing.{bound_of}
 
 -- a number of a row that was read
@@ -39,12 +39,6 @@ bound_read n rows i r Constant Basic l e = refl
 bound_read n rows i r Linear Up l e = sym (row_read rows i r (λ r. whole r.up1) l e)
 bound_read n rows i r Linear Down l e = ap neg_ℚ (sym (row_read rows i r (λ r. whole r.down1) l e))
 bound_read n rows i r Linear Basic l e = refl
-
--- the side that was read
-pub side_read : (sides : List Side) (i : ℕ) (d : Side) → i < length sides → get_or sides i d ≡ side_in sides i
-side_read [] i d l = absurd (omega arith)
-side_read (s ∷ sides) zero d l = refl
-side_read (s ∷ sides) (suc i) d l = side_read sides i d (omega arith)
 
 -- one whole number more that was put in its place, behind which all stay
 pub whole_put : (xs : List ℤ) (n : ℕ) (x : ℤ) (f : ℕ → ℚ) → n < length xs → ((k : ℕ) → k < n → whole_at xs k ≡ f k) → whole x ≡ f n → (k : ℕ) → k < n + 1 → whole_at (slice_set xs n x) k ≡ f k

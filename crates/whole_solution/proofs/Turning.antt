@@ -12,7 +12,7 @@ use Rattle.rational_laws.specs.WholeLists.{whole_at}
 use Rattle.whole_rows.specs.declared.rows.WholeRow.{WholeRow}
 use Rattle.whole_solution.specs.declared.totals.Totals.{Totals}
 use Rattle.whole_solution.specs.declared.totals.Weights.{Weights}
-use Rattle.whole_solution.specs.Standing.{side_in}
+use Rattle.loss_model.specs.Sides.{side_in}
 use Rattle.whole_solution.specs.Weighing.{bound_of, AreTotals, AreWeights, AreRaised, AreTurned}
 use Rattle.whole_solution.proofs.Basics.{put_same, put_other}
 use Rattle.whole_solution.proofs.Moved.{AreMoved, moved_none, moved_more, moved_same, moved_all, turned_read}

@@ -1,10 +1,11 @@
 -- Inner. A basis of rows in whole numbers, and what stands there.
-use Rattle.std.specs.Prelude.{◌≡◌, ◌≢◌, ℕ, ℤ, ◌<◌, ◌≤◌, ◌^◌, List, [], ◌∷◌, All, IfSome, length, pos, slice_get, slice_index, unwrap_or, unsigned_abs}
+use Rattle.std.specs.Prelude.{◌≡◌, ◌≢◌, ℕ, ℤ, ◌<◌, ◌≤◌, ◌^◌, List, [], ◌∷◌, All, IfSome, length, pos, slice_index, unsigned_abs}
 use Rattle.rational_laws.specs.Rational.{ℚ}
 use Rattle.rational_laws.specs.Selections.{AreDistinct}
 use Rattle.loss_model.specs.declared.vertex.Side.{Side}
 use Rattle.loss_model.specs.declared.vertex.Side.TheVariants.{Basic}
 use Rattle.loss_model.specs.Sample.{Sample, residual}
+use Rattle.loss_model.specs.Sides.{side_in}
 use Rattle.basis_model.specs.declared.part.Part.TheVariants.{Constant, Linear}
 use Rattle.basis_model.specs.Basis.{coefficient, side_at, basic_dual}
 use Rattle.whole_inverse.specs.Shares.{share, share_at}
@@ -17,10 +18,6 @@ use Rattle.whole_solution.specs.declared.solution.Nearby.{Nearby}
 use Rattle.whole_solution.specs.declared.solution.Sided.{Sided}
 use Rattle.whole_solution.specs.Weighing.{AreWeights}
 use Rattle.whole_solution.specs.Far.{AreOthersFar, IsNear}
-
--- the side of row i
-abbrev pub side_in : List Side → ℕ → Side
-side_in sides i = unwrap_or (slice_get sides i) Basic
 
 -- different rows, one to each position of an inverse of this size, of which each has as many entries, within the limit
 pub record IsWholeBasis (b : WholeBasis) : Type 0 where

@@ -8,7 +8,7 @@ ghost use Rattle.rational_laws.specs.Rational.{◌+ℚ◌, ◌≤ℚ◌, whole};
 ghost use Rattle.loss_model.specs.declared.vertex.Side.TheVariants.{Up, Down};
 ghost use Rattle.wide_int.specs.Numbers.{joined, number_of};
 ghost use Rattle.whole_inverse.specs.Shares.{share, share_at};
-ghost use Rattle.whole_solution.specs.Standing.{side_in};
+ghost use Rattle.loss_model.specs.Sides.{side_in};
 ghost use Rattle.whole_solution.specs.Far.{move_of, moves, reaching, room, IsChosen, IsFarOn, IsListed, IsNearOrFar};
 
 use crate::ranges::Ranges;

@@ -9,7 +9,8 @@ ghost use Rattle.rational_laws.specs.WholeLists.{whole_at};
 ghost use Rattle.whole_inverse.specs.Shares.{share, share_at};
 ghost use Rattle.whole_inverse.specs.Squares.{inverse_of};
 ghost use Rattle.whole_rows.specs.Wholes.{sample_of_rows};
-ghost use Rattle.whole_solution.specs.Standing.{side_in, IsWholeBasis};
+ghost use Rattle.loss_model.specs.Sides.{side_in};
+ghost use Rattle.whole_solution.specs.Standing.{IsWholeBasis};
 
 use crate::basis::WholeBasis;
 use crate::signs::{perturbed_sign, side_of_number};

@@ -10,7 +10,7 @@ ghost use Rattle.rational_laws.specs.WholeLists.{whole_at};
 ghost use Rattle.whole_inverse.specs.Shares.{share, share_at};
 ghost use Rattle.whole_rows.specs.Wholes.{sample_of_rows};
 ghost use Rattle.whole_rows.specs.declared.rows.WholeRow.{WholeRow as Row};
-ghost use Rattle.whole_solution.specs.Standing.{side_in};
+ghost use Rattle.loss_model.specs.Sides.{side_in};
 ghost use Rattle.whole_solution.specs.Weighing.{bound_of, AreRaised, AreTurned, AreWeights};
 
 use crate::bounds::bound;

@@ -8,7 +8,7 @@ use Rattle.rational_laws.specs.Rational.{ℚ, ◌*ℚ◌, inverse, whole, ◌≤
 use Rattle.rational_laws.specs.RationalSums.{sum_ℚ}
 use Rattle.rational_laws.proofs.RationalLaws.{ring_ℚ, ring_by_ℚ, whole-mul, *ℚ-inverse, ≤ℚ_refl, ≤ℚ_trans, ≤ℚ_mul}
 use Rattle.rational_laws.proofs.OrderLaws.{cmp_ℚ-Less}
-use Rattle.rational_laws.proofs.WholeNumbers.{le_from_whole, same_from_whole, whole-le}
+use Rattle.rational_laws.proofs.WholeNumbers.{le_from_whole, whole-le}
 use Rattle.loss_model.specs.declared.vertex.Side.{Side}
 use Rattle.loss_model.specs.declared.vertex.Side.TheVariants.{Up, Down, Basic}
 use Rattle.loss_model.specs.Spill.{abs_ℚ}
@@ -23,7 +23,8 @@ use Rattle.whole_inverse.specs.Squares.{WholeSquare}
 use Rattle.walk_model.specs.Walks.{IsFirstMover}
 use Rattle.whole_solution.specs.Far.{IsFarOn, IsNearOrFar}
 use Rattle.whole_solution.specs.Ranges.{most_of_products}
-use Rattle.whole_solution.specs.Standing.{side_in}
+use Rattle.loss_model.specs.Sides.{side_in}
+use Rattle.loss_model.proofs.Quotients.{whole_some}
 use Rattle.whole_steps.specs.declared.line.Line.{Line}
 use Rattle.whole_steps.specs.declared.line.Mover.{Mover}
 use Rattle.whole_steps.specs.declared.near_line.NearLine.{NearLine}
@@ -39,11 +40,8 @@ use Rattle.whole_steps.proofs.Ties.{moving_coord}
 
 -- ---- quotients
 
-nonzero : (d : ℕ) → 1 ≤ d → whole (pos d) ≢ whole (pos 0)
-nonzero d h e = let z = same_from_whole (pos d) (pos 0) e in omega (arith, ints)
-
 times : (n d : ℕ) → 1 ≤ d → whole (pos d) *ℚ share (pos n) (pos d) ≡ whole (pos n)
-times n d h = ring_by_ℚ (whole (pos n) ∷ whole (pos d) ∷ inverse (whole (pos d)) ∷ []) (v1 ⊠ (v0 ⊠ v2)) v0 v0 (v1 ⊠ v2) (number (pos 1)) refl (*ℚ-inverse (whole (pos d)) (nonzero d h))
+times n d h = ring_by_ℚ (whole (pos n) ∷ whole (pos d) ∷ inverse (whole (pos d)) ∷ []) (v1 ⊠ (v0 ⊠ v2)) v0 v0 (v1 ⊠ v2) (number (pos 1)) refl (*ℚ-inverse (whole (pos d)) (whole_some d h))
 
 three : (a b c : ℕ) → whole (pos a) *ℚ (whole (pos b) *ℚ whole (pos c)) ≡ whole (pos (a * (b * c)))
 three a b c = ap (λ z. whole (pos a) *ℚ z) (sym (whole-mul (pos b) (pos c))) ∙ sym (whole-mul (pos a) (pos (b * c)))

@@ -21,7 +21,7 @@ use Rattle.whole_inverse.specs.Shares.{share}
 use Rattle.whole_inverse.proofs.Lists.{share_read}
 use Rattle.whole_inverse.proofs.Turned.{share-quotient}
 use Rattle.whole_solution.proofs.Numbers.{share_none, share_some}
-use Rattle.whole_solution.proofs.Reading.{side_read}
+use Rattle.loss_model.proofs.Sides.{side_read}
 use Rattle.whole_steps.specs.declared.full_line.FullLine.{FullLine}
 use Rattle.whole_steps.specs.declared.line.Line.{Line}
 use Rattle.whole_steps.specs.declared.line.Mover.{Mover}

@@ -14,7 +14,8 @@ use Rattle.whole_inverse.specs.Squares.{inverse_of}
 use Rattle.whole_rows.specs.Wholes.{sample_of_rows}
 use Rattle.whole_solution.specs.Columns.{IsColumn}
 use Rattle.whole_solution.specs.Far.{AreOthersFar, IsFarOn, IsNear}
-use Rattle.whole_solution.specs.Standing.{side_in, IsWholeBasis}
+use Rattle.loss_model.specs.Sides.{side_in}
+use Rattle.whole_solution.specs.Standing.{IsWholeBasis}
 use Rattle.whole_steps.specs.declared.full_line.FullLine.{FullLine}
 use Rattle.whole_steps.specs.declared.line.Line.{Line}
 use Rattle.whole_steps.specs.declared.line.Mover.{Mover}

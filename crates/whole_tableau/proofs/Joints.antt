@@ -15,7 +15,8 @@ use Rattle.whole_inverse.specs.Squares.{inverse_of}
 use Rattle.whole_rows.specs.Wholes.{factor_at, factor_value}
 use Rattle.whole_rows.proofs.Inverses.{basis_from}
 use Rattle.whole_solution.specs.declared.solution.Joint.{Joint}
-use Rattle.whole_solution.specs.Standing.{side_in, IsPast}
+use Rattle.loss_model.specs.Sides.{side_in}
+use Rattle.whole_solution.specs.Standing.{IsPast}
 use Rattle.whole_solution.proofs.Made.{basic_by}
 use Rattle.whole_tableau.specs.declared.body.Moved.{Moved}
 use Rattle.whole_tableau.specs.Kept.{Kept, IsKept, IsMoved, IsJointOf, wholes_of}

@@ -7,8 +7,10 @@ use Rattle.loss_model.proofs.Products.{value_read}
 use Rattle.basis_model.specs.Basis.{bound_part}
 use Rattle.basis_model.specs.BasisSpills.{is_basic, total_products}
 use Rattle.basis_model.proofs.Sums.{partial_sum-begun, partial_sum-more, partial_sum-whole}
-use Rattle.basic_solution.specs.Bases.{bound_of, side_in}
-use Rattle.basic_solution.proofs.Rows.{row_number, row_wide, row_bound, side_read}
+use Rattle.loss_model.specs.Sides.{side_in}
+use Rattle.basic_solution.specs.Bases.{bound_of}
+use Rattle.loss_model.proofs.Sides.{side_read}
+use Rattle.basic_solution.proofs.Rows.{row_number, row_wide, row_bound}
 use Rattle.basic_solution.proofs.RowTotals.{outside_before-le, one_more, none_more, passed, total_spill}
 use Rattle.basic_solution.proofs.Exits.{by_exit}
 use Rattle.basic_solution.proofs.columns.total.Goals as goal

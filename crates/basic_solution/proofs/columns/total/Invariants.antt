@@ -3,7 +3,7 @@ use Rattle.rational_laws.specs.Fraction.{rational}
 use Rattle.loss_model.specs.Problem.{sample}
 use Rattle.loss_model.specs.Spill.{partial_sum}
 use Rattle.basis_model.specs.BasisSpills.{total_products, outside_before}
-use Rattle.basic_solution.specs.Bases.{side_in}
+use Rattle.loss_model.specs.Sides.{side_in}
 use Rattle.basic_solution.proofs.columns.total.Given as goal
 
 abbrev pub invariant-loop-i : goal.invariant-loop-i

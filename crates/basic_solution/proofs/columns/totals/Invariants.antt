@@ -1,6 +1,6 @@
 use Rattle.loss_model.specs.Problem.{value_at, sample}
 use Rattle.basis_model.specs.Basis.{nonbasic_total}
-use Rattle.basic_solution.specs.Bases.{side_in}
+use Rattle.loss_model.specs.Sides.{side_in}
 use Rattle.basic_solution.proofs.Filled.{IsFilled}
 use Rattle.basic_solution.proofs.columns.totals.Given as goal
 

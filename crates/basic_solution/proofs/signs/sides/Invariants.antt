@@ -2,7 +2,7 @@ use Rattle.std.specs.Prelude.{slice_index}
 use Rattle.loss_model.specs.Problem.{sample}
 use Rattle.basis_inverse.specs.Square.{inverse_entry}
 use Rattle.basis_model.specs.Basis.{side_at}
-use Rattle.basic_solution.specs.Bases.{side_in}
+use Rattle.loss_model.specs.Sides.{side_in}
 use Rattle.basic_solution.proofs.Filled.{IsFilled}
 use Rattle.basic_solution.proofs.signs.sides.Given as goal
 

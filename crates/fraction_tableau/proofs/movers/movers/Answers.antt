@@ -2,7 +2,7 @@
 use Rattle.std.proofs.Common.{◌<◌, length, arith, ◌∙◌}
 use Rattle.std.proofs.lemmas.Result.{err_from_is_err_and}
 use Rattle.loss_model.proofs.Products.{value_read}
-use Rattle.basic_solution.proofs.Rows.{side_read}
+use Rattle.loss_model.proofs.Sides.{side_read}
 use Rattle.fraction_tableau.proofs.movers.movers.Goals as goal
 
 pub offer-requires-clause-side : goal.offer-requires-clause-side

@@ -4,10 +4,10 @@ use Rattle.std.proofs.lemmas.List.Elements.{All-weaker, All-push}
 use Rattle.loss_model.specs.declared.vertex.Side.TheVariants.{Up}
 use Rattle.whole_inverse.specs.Shares.{share, share_at}
 use Rattle.whole_inverse.proofs.Lists.{share_read}
-use Rattle.whole_solution.specs.Standing.{side_in}
+use Rattle.loss_model.specs.Sides.{side_in}
 use Rattle.whole_solution.specs.Far.{IsFarOn}
 use Rattle.whole_solution.proofs.Listed.{near_next, far_next}
-use Rattle.whole_solution.proofs.Reading.{side_read}
+use Rattle.loss_model.proofs.Sides.{side_read}
 use Rattle.whole_solution.proofs.near.near_rows.Goals as goal
 use Rattle.whole_solution.proofs.near.near_rows.Goals.{then-not-is_far_on+in_ok-add, else-not-is_far_on}
 

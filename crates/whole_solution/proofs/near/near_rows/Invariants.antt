@@ -1,6 +1,6 @@
 use Rattle.std.proofs.Common.{ℕ, ℤ, ◌<◌, ◌≤ℤ◌, All, pos}
 use Rattle.whole_inverse.specs.Shares.{share, share_at}
-use Rattle.whole_solution.specs.Standing.{side_in}
+use Rattle.loss_model.specs.Sides.{side_in}
 use Rattle.whole_solution.specs.Far.{IsNearOrFar}
 use Rattle.whole_solution.proofs.near.near_rows.Given as goal
 

@@ -5,7 +5,7 @@ use Rattle.basis_model.specs.Basis.{coefficient}
 use Rattle.whole_inverse.specs.Shares.{share_at}
 use Rattle.whole_inverse.specs.Squares.{inverse_of}
 use Rattle.whole_rows.specs.Wholes.{sample_of_rows}
-use Rattle.whole_solution.specs.Standing.{side_in}
+use Rattle.loss_model.specs.Sides.{side_in}
 use Rattle.whole_solution.proofs.Same.{residual_same}
 use Rattle.whole_solution.proofs.Chosen.{near_from_chosen, far_from_chosen}
 use Rattle.whole_solution.proofs.basis.WholeBasis.choose_near.Goals as goal

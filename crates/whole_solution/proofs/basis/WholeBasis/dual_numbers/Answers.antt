@@ -3,7 +3,7 @@ use Rattle.std.proofs.Common.{length, slice_index, ◌∙◌}
 use Rattle.basis_model.specs.declared.part.Part.TheVariants.{Constant, Linear}
 use Rattle.whole_inverse.specs.Squares.{inverse_of}
 use Rattle.whole_rows.specs.Wholes.{sample_of_rows}
-use Rattle.whole_solution.specs.Standing.{side_in}
+use Rattle.loss_model.specs.Sides.{side_in}
 use Rattle.whole_solution.proofs.Same.{duals_from}
 use Rattle.whole_solution.proofs.basis.WholeBasis.dual_numbers.Goals as goal
 

@@ -1,6 +1,6 @@
 use Rattle.std.specs.Prelude.{◌≡◌, ℕ, ◌<◌, slice_index}
 use Rattle.loss_model.specs.declared.vertex.Side.TheVariants.{Basic}
-use Rattle.whole_solution.specs.Standing.{side_in}
+use Rattle.loss_model.specs.Sides.{side_in}
 use Rattle.whole_solution.proofs.basis.WholeBasis.holds_basis.Given as goal
 
 abbrev pub invariant-loop-j : goal.invariant-loop-j

@@ -8,10 +8,11 @@ use Rattle.rational_laws.specs.Rational.{whole}
 use Rattle.rational_laws.specs.WholeLists.{whole_at}
 use Rattle.whole_inverse.specs.Squares.{inverse_of}
 use Rattle.whole_rows.specs.Wholes.{sample_of_rows}
-use Rattle.whole_solution.specs.Standing.{side_in}
+use Rattle.loss_model.specs.Sides.{side_in}
 use Rattle.whole_solution.specs.Weighing.{bound_of}
 use Rattle.whole_solution.proofs.Put.{put_none, put_more, put_all}
-use Rattle.whole_solution.proofs.Reading.{row_read, bound_read, side_read}
+use Rattle.loss_model.proofs.Sides.{side_read}
+use Rattle.whole_solution.proofs.Reading.{row_read, bound_read}
 use Rattle.whole_solution.proofs.Turning.{weights_put, weights_kept}
 use Rattle.whole_solution.proofs.basis.WholeBasis.listed_sides.Goals as goal
 use Rattle.whole_solution.proofs.basis.WholeBasis.listed_sides.Goals.{then-not-stays+in_ok-turn, else-not-stays}

@@ -1,7 +1,7 @@
 use Rattle.std.specs.Prelude.{length, slice_index}
 use Rattle.whole_inverse.specs.Squares.{inverse_of}
 use Rattle.whole_rows.specs.Wholes.{sample_of_rows}
-use Rattle.whole_solution.specs.Standing.{side_in}
+use Rattle.loss_model.specs.Sides.{side_in}
 use Rattle.whole_solution.specs.Weighing.{AreWeights}
 use Rattle.whole_solution.proofs.Put.{ArePut}
 use Rattle.whole_solution.proofs.basis.WholeBasis.listed_sides.Given as goal

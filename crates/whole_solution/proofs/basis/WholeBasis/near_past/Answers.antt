@@ -5,7 +5,8 @@ use Rattle.whole_inverse.specs.Squares.{inverse_of}
 use Rattle.whole_rows.specs.Wholes.{sample_of_rows}
 use Rattle.whole_solution.specs.declared.near.Near.{Near}
 use Rattle.whole_solution.specs.Far.{reaching}
-use Rattle.whole_solution.specs.Standing.{side_in, IsNearby}
+use Rattle.loss_model.specs.Sides.{side_in}
+use Rattle.whole_solution.specs.Standing.{IsNearby}
 use Rattle.whole_solution.proofs.Chosen.{near_now, far_now}
 use Rattle.whole_solution.proofs.Past.{each_near}
 use Rattle.whole_solution.proofs.basis.WholeBasis.near_past.Goals as goal

@@ -2,9 +2,10 @@
 use Rattle.std.proofs.Common.{◌≡◌, length, slice_index, true, false, sym, subst, ◌∙◌}
 use Rattle.std.proofs.lemmas.Result.{IfOk-weaker}
 use Rattle.rational_laws.specs.Selections.{is_among}
+use Rattle.rational_laws.proofs.SelectionLaws.{apart_from}
 use Rattle.whole_inverse.specs.Squares.{inverse_of}
 use Rattle.whole_rows.specs.Wholes.{sample_of_rows}
-use Rattle.whole_solution.proofs.Made.{basic_by, outside_by, apart_from}
+use Rattle.whole_solution.proofs.Made.{basic_by, outside_by}
 use Rattle.whole_solution.proofs.basis.WholeBasis.side_of_row.Goals as goal
 
 pub returns-then-is_held : goal.returns-then-is_held

@@ -3,7 +3,7 @@ use Rattle.rational_laws.specs.Selections.{is_among}
 use Rattle.basis_model.specs.Basis.{side_at}
 use Rattle.whole_inverse.specs.Squares.{inverse_of}
 use Rattle.whole_rows.specs.Wholes.{sample_of_rows}
-use Rattle.whole_solution.specs.Standing.{side_in}
+use Rattle.loss_model.specs.Sides.{side_in}
 use Rattle.whole_solution.proofs.basis.WholeBasis.sides.Given as goal
 
 abbrev pub invariant-loop-row : goal.invariant-loop-row

@@ -2,7 +2,7 @@
 use Rattle.std.proofs.Common.{length, sym}
 use Rattle.loss_model.specs.declared.vertex.Side.TheVariants.{Basic}
 use Rattle.whole_rows.specs.Wholes.{sample_of_rows}
-use Rattle.whole_solution.specs.Standing.{side_in}
+use Rattle.loss_model.specs.Sides.{side_in}
 use Rattle.whole_solution.proofs.Same.{weights-same}
 use Rattle.whole_solution.proofs.basis.WholeBasis.solution.Goals as goal
 

@@ -9,10 +9,11 @@ use Rattle.rational_laws.specs.Rational.{whole}
 use Rattle.rational_laws.specs.WholeLists.{whole_at}
 use Rattle.whole_rows.specs.declared.rows.WholeRow.{WholeRow}
 use Rattle.whole_rows.specs.Wholes.{sample_of_rows}
-use Rattle.whole_solution.specs.Standing.{side_in}
+use Rattle.loss_model.specs.Sides.{side_in}
 use Rattle.whole_solution.specs.Weighing.{bound_of}
 use Rattle.whole_solution.proofs.Moved.{moved_none, moved_more, moved_same, moved_all, turned_read}
-use Rattle.whole_solution.proofs.Reading.{row_read, bound_read, side_read}
+use Rattle.loss_model.proofs.Sides.{side_read}
+use Rattle.whole_solution.proofs.Reading.{row_read, bound_read}
 use Rattle.whole_solution.proofs.totals.Weights.after.Goals as goal
 use Rattle.whole_solution.proofs.totals.Weights.after.Goals.{then-not-stays+in_ok-turn, else-not-stays}
 

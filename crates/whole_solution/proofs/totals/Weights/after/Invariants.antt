@@ -1,7 +1,7 @@
 use Rattle.std.specs.Prelude.{length}
 use Rattle.basis_model.specs.declared.part.Part.TheVariants.{Constant, Linear}
 use Rattle.whole_rows.specs.Wholes.{sample_of_rows}
-use Rattle.whole_solution.specs.Standing.{side_in}
+use Rattle.loss_model.specs.Sides.{side_in}
 use Rattle.whole_solution.proofs.Moved.{AreMoved}
 use Rattle.whole_solution.proofs.totals.Weights.after.Given as goal
 
