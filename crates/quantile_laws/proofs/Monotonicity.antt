@@ -14,11 +14,10 @@ use Rattle.loss_model.specs.Strict.{◌<ℚ◌}
 use Rattle.loss_model.specs.Sample.{Sample, fitted, residual, row_loss, loss, Minimises}
 use Rattle.loss_model.specs.Dual.{mix}
 use Rattle.loss_model.specs.Segment.{Segments, Covers}
-use Rattle.loss_model.proofs.Quotients.{inverse_of}
+use Rattle.loss_model.proofs.Quotients.{inverse_of, positive_gap}
 use Rattle.quantile_laws.specs.Monotonicity.{LossIsAffine, LeastLossIsConcave, LeastLossIsOne, MinimiseAlong, LeastLossIsContinuous, loss_slope, LossIsLine}
 use Rattle.quantile_laws.specs.Monotonicity.{SlopeFalls, SlopeFallsAlong, AreObservations, centroid, at_centroid, CentroidNeverFalls, CentroidNeverFallsAlong}
 use Rattle.quantile_laws.proofs.Counts.{sum_cut}
-use Rattle.quantile_laws.proofs.Uniqueness.{apart}
 
 -- the loss at another quantile
 pub line : LossIsLine
@@ -67,7 +66,7 @@ continuous p rows lo hi s b covers least j l =
 -- both minimise: the inequalities added
 pub slope_falls : SlopeFalls
 slope_falls p lo hi b c at_lo at_hi after =
-    ≤ℚ-from_mul (loss_slope p c) (loss_slope p b) (hi -ℚ lo) (apart lo hi after)
+    ≤ℚ-from_mul (loss_slope p c) (loss_slope p b) (hi -ℚ lo) (positive_gap lo hi after)
     (≤ℚ_cancel ((hi -ℚ lo) *ℚ loss_slope p c) ((hi -ℚ lo) *ℚ loss_slope p b) (loss p lo b +ℚ loss p lo c)
     (subst (λ z. z ≤ℚ ((loss p lo b +ℚ loss p lo c) +ℚ ((hi -ℚ lo) *ℚ loss_slope p b)))
     (ap (λ z. loss p lo b +ℚ z) (line p lo hi c) ∙ ring_ℚ (loss p lo b ∷ loss p lo c ∷ ((hi -ℚ lo) *ℚ loss_slope p c) ∷ []) (v0 ⊞ (v1 ⊞ v2)) ((v0 ⊞ v1) ⊞ v2) refl)

@@ -8,6 +8,7 @@ use Rattle.rational_laws.proofs.RationalSumLaws.{≤ℚ_from}
 use Rattle.rational_laws.proofs.OrderLaws.{≤ℚ-minus, ≤ℚ-from_mul, not_le}
 use Rattle.rational_laws.proofs.Signs.{sum_not_negative, product_not_negative}
 use Rattle.loss_model.specs.Strict.{◌<ℚ◌}
+use Rattle.loss_model.proofs.Quotients.{positive_gap}
 
 -- z is at least 0 where it equals something that is
 pub not_negative_is : (x y : ℚ) → x ≡ y → whole (pos 0) ≤ℚ x → whole (pos 0) ≤ℚ y
@@ -38,10 +39,6 @@ not_less x y h = by (le_or_less y x)
     by : (y ≤ℚ x) ⊎ (x <ℚ y) → y ≤ℚ x
     by (inl k) = k
     by (inr k) = absurd (h k)
-
-pub positive_gap : (x y : ℚ) → x <ℚ y → whole (pos 0) <ℚ (y -ℚ x)
-positive_gap x y h k =
-    h (≤ℚ_from y x (not_negative_is (whole (pos 0) -ℚ (y -ℚ x)) (x -ℚ y) (ring_ℚ (x ∷ y ∷ []) (number (pos 0) ⊟ (v1 ⊟ v0)) (v0 ⊟ v1) refl) (gap (y -ℚ x) (whole (pos 0)) k)))
 
 module _ (a s b t : ℚ) where
   -- one difference of objectives

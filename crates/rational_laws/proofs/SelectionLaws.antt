@@ -5,7 +5,7 @@
 -- inverse applies.
 use Rattle.std.specs.Prelude.{◌≡◌, ◌≢◌, ℕ, zero, suc, ◌<◌, Bool, true, false, if◌then◌else◌, ◌==◌, [], ◌∷◌, pos}
 use Rattle.std.proofs.Common.{arith, refl, sym, ap, ◌∙◌}
-use borrow.Author.Tests.{ne_eqb}
+use borrow.Author.Tests.{eqb-true, eqb-false, ne_eqb}
 use Rattle.rational_laws.specs.Solver.{number, ◌⊞◌, ◌⊟◌, v0, v1}
 use Rattle.rational_laws.specs.Rational.{ℚ, ◌+ℚ◌, ◌-ℚ◌, whole}
 use Rattle.rational_laws.proofs.RationalLaws.{ring_ℚ}

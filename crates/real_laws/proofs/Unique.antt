@@ -12,8 +12,8 @@ use Rattle.rational_laws.proofs.TermLaws.{if-same, if-other}
 use Rattle.loss_model.specs.Strict.{◌<ℚ◌}
 use Rattle.loss_model.specs.Sample.{Sample, up_cost, down_cost}
 use Rattle.loss_model.specs.Dual.{IsDual}
+use Rattle.loss_model.proofs.Quotients.{positive_gap}
 use Rattle.basis_model.specs.Basis.{IsBasis}
-use Rattle.quantile_laws.proofs.Uniqueness.{apart}
 use Rattle.real_laws.specs.OrderedRings.{OrderedRing, total, positive_in, negative_in}
 use Rattle.real_laws.specs.Losses.{fitted_in, residual_in, row_loss_in, loss_in, MinimisesIn, as_numbers}
 use Rattle.real_laws.specs.Laws.{MinimumIsUniqueIn, IsStrictlyBetween, UniqueBetweenIn}
@@ -238,7 +238,7 @@ module _ (R : OrderedRing) (p : Sample) (lo hi : ℚ) (theta : R.Number) (b c : 
       (difference R (R.fraction strict.after) theta strict.from))
 
   not_negative : (x y : ℚ) → x <ℚ y → R.at_most (none R) (R.fraction (y -ℚ x))
-  not_negative x y h = R.fraction_order (whole (pos 0)) (y -ℚ x) (le_from_not (whole (pos 0)) (y -ℚ x) (apart x y h))
+  not_negative x y h = R.fraction_order (whole (pos 0)) (y -ℚ x) (le_from_not (whole (pos 0)) (y -ℚ x) (positive_gap x y h))
 
   up_known : R.at_most (none R) up
   up_known = R.transitive (none R) (R.fraction (hi -ℚ strict.before)) up (not_negative strict.before hi strict.below) up_some
@@ -269,7 +269,7 @@ module _ (R : OrderedRing) (p : Sample) (lo hi : ℚ) (theta : R.Number) (b c : 
   pub least_lo : R.at_most (loss_in R p (R.fraction lo) c) (loss_in R p (R.fraction lo) b)
   unfolding weighed
   least_lo =
-      freed (hi -ℚ strict.before) up (loss_in R p (R.fraction lo) c) (loss_in R p (R.fraction lo) b) (apart strict.before hi strict.below) up_some (at_lo c)
+      freed (hi -ℚ strict.before) up (loss_in R p (R.fraction lo) c) (loss_in R p (R.fraction lo) b) (positive_gap strict.before hi strict.below) up_some (at_lo c)
       (cancelled R (R.product down (loss_in R p (R.fraction hi) b)) (R.product down (loss_in R p (R.fraction hi) c)) (R.product up (loss_in R p (R.fraction lo) b)) (R.product up (loss_in R p (R.fraction lo) c))
       (kept R (loss_in R p (R.fraction hi) b) (loss_in R p (R.fraction hi) c) down down_known (at_hi c))
       (subst (λ z. R.at_most z (R.sum (R.product down (loss_in R p (R.fraction hi) b)) (R.product up (loss_in R p (R.fraction lo) b)))) (turned c) (subst (λ z. R.at_most (weighed c) z) (turned b) weighed_least)))
@@ -281,7 +281,7 @@ module _ (R : OrderedRing) (p : Sample) (lo hi : ℚ) (theta : R.Number) (b c : 
   pub least_hi : R.at_most (loss_in R p (R.fraction hi) c) (loss_in R p (R.fraction hi) b)
   unfolding weighed
   least_hi =
-      freed (strict.after -ℚ lo) down (loss_in R p (R.fraction hi) c) (loss_in R p (R.fraction hi) b) (apart lo strict.after strict.above) down_some (at_hi c)
+      freed (strict.after -ℚ lo) down (loss_in R p (R.fraction hi) c) (loss_in R p (R.fraction hi) b) (positive_gap lo strict.after strict.above) down_some (at_hi c)
       (cancelled R (R.product up (loss_in R p (R.fraction lo) b)) (R.product up (loss_in R p (R.fraction lo) c)) (R.product down (loss_in R p (R.fraction hi) b)) (R.product down (loss_in R p (R.fraction hi) c))
       (kept R (loss_in R p (R.fraction lo) b) (loss_in R p (R.fraction lo) c) up up_known (at_lo c)) weighed_least)
 

@@ -8,7 +8,7 @@ use Rattle.rational_laws.proofs.RationalLaws.{ring_ℚ, ring_by_ℚ, *ℚ-invers
 use Rattle.rational_laws.proofs.RationalSumLaws.{≤ℚ_add2, ≤ℚ_from}
 use Rattle.rational_laws.proofs.OrderLaws.{≤ℚ-minus, le_from_not}
 use Rattle.rational_laws.proofs.WholeNumbers.{le_from_whole}
-use Rattle.rational_laws.proofs.Signs.{product_not_negative}
+use Rattle.rational_laws.proofs.Signs.{product_not_negative, sum_not_negative}
 use Rattle.loss_model.specs.Strict.{◌<ℚ◌}
 use Rattle.loss_model.proofs.Quotients.{inverse_of}
 use Rattle.real_laws.specs.Fractions.{greater_ℚ, left_at_most, right_at_most, greater_is_least}
@@ -17,12 +17,6 @@ use Rattle.real_laws.specs.Fractions.{greater_ℚ, left_at_most, right_at_most, 
 
 pub one_some : whole (pos 0) <ℚ whole (pos 1)
 one_some h = absurd (omega (arith, ints, le_from_whole (pos 1) (pos 0) h))
-
--- two numbers that aren't negative have such a sum
-pub sum_known : (x y : ℚ) → whole (pos 0) ≤ℚ x → whole (pos 0) ≤ℚ y → whole (pos 0) ≤ℚ (x +ℚ y)
-sum_known x y h k =
-    subst (λ z. z ≤ℚ (x +ℚ y)) (ring_ℚ [] (number (pos 0) ⊞ number (pos 0)) (number (pos 0)) refl)
-    (≤ℚ_add2 (whole (pos 0)) x (whole (pos 0)) y h k)
 
 -- equal numbers are at no distance
 pub no_distance : (x y e : ℚ) → x ≡ y → whole (pos 0) <ℚ e → (x -ℚ y) ≤ℚ e
@@ -94,7 +88,7 @@ product_within x y b d h k l m =
     (subst (λ z. whole (pos 0) ≤ℚ z)
     (ring_ℚ (x ∷ y ∷ b ∷ d ∷ [])
     ((v2 ⊟ v0) ⊠ (v3 ⊟ negated v1) ⊞ (v2 ⊟ negated v0) ⊠ (v3 ⊟ v1)) ((v2 ⊠ v3 ⊟ v0 ⊠ v1) ⊞ (v2 ⊠ v3 ⊟ v0 ⊠ v1)) refl)
-    (sum_known ((b -ℚ x) *ℚ (d -ℚ neg_ℚ y)) ((b -ℚ neg_ℚ x) *ℚ (d -ℚ y))
+    (sum_not_negative ((b -ℚ x) *ℚ (d -ℚ neg_ℚ y)) ((b -ℚ neg_ℚ x) *ℚ (d -ℚ y))
     (product_not_negative (b -ℚ x) (d -ℚ neg_ℚ y) ((≤ℚ-minus x b).0 h) ((≤ℚ-minus (neg_ℚ y) d).0 m))
     (product_not_negative (b -ℚ neg_ℚ x) (d -ℚ y) ((≤ℚ-minus (neg_ℚ x) b).0 k) ((≤ℚ-minus y d).0 l)))))
 

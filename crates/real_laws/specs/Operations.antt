@@ -8,9 +8,10 @@ use Rattle.rational_laws.specs.RationalSums.{positive_ℚ, negative_ℚ}
 use Rattle.rational_laws.proofs.RationalLaws.{ring_ℚ, ring_by_ℚ, ≤ℚ_trans}
 use Rattle.rational_laws.proofs.RationalSumLaws.{parts_ℚ, ≤ℚ_from}
 use Rattle.rational_laws.proofs.OrderLaws.{≤ℚ-minus}
+use Rattle.rational_laws.proofs.Signs.{sum_not_negative}
 use Rattle.loss_model.specs.Strict.{◌<ℚ◌}
 use Rattle.real_laws.specs.Fractions.{greater_ℚ}
-use Rattle.real_laws.specs.Distances.{one_some, sum_known, no_distance, half_of, half_some, by_halves, part_of, part_some, part_within, greater_near}
+use Rattle.real_laws.specs.Distances.{one_some, no_distance, half_of, half_some, by_halves, part_of, part_some, part_within, greater_near}
 use Rattle.real_laws.specs.Sequences.{Sequence, Same}
 
 -- sequences of equal terms are of one number
@@ -89,7 +90,7 @@ bound_some x h =
     (≤ℚ_from (whole (pos 1)) (bound_of x)
     (subst (λ z. whole (pos 0) ≤ℚ z)
     (ring_ℚ (positive_ℚ a ∷ negative_ℚ a ∷ []) (v0 ⊞ v1) (((v0 ⊞ v1) ⊞ number (pos 1)) ⊟ number (pos 1)) refl)
-    (sum_known (positive_ℚ a) (negative_ℚ a) two.1 two.2))) h)
+    (sum_not_negative (positive_ℚ a) (negative_ℚ a) two.1 two.2))) h)
 
 pub bounded : (x : Sequence) (n : ℕ) → x.from (whole (pos 1)) ≤ n → (x.at n ≤ℚ bound_of x) × (neg_ℚ (x.at n) ≤ℚ bound_of x)
 unfolding bound_of
@@ -103,16 +104,16 @@ bounded x n h =
           (subst (λ z. whole (pos 0) ≤ℚ z)
           (ring_by_ℚ vs ((number (pos 1) ⊟ (v0 ⊟ v1)) ⊞ (v3 ⊞ v3)) (((v2 ⊞ v3) ⊞ number (pos 1)) ⊟ v0)
           (number (pos 1)) v1 (v2 ⊟ v3) refl two.0)
-          (sum_known (whole (pos 1) -ℚ (x.at n -ℚ a)) (negative_ℚ a +ℚ negative_ℚ a)
+          (sum_not_negative (whole (pos 1) -ℚ (x.at n -ℚ a)) (negative_ℚ a +ℚ negative_ℚ a)
           ((≤ℚ-minus (x.at n -ℚ a) (whole (pos 1))).0 (x.close (whole (pos 1)) one_some n first h here))
-          (sum_known (negative_ℚ a) (negative_ℚ a) two.2 two.2))),
+          (sum_not_negative (negative_ℚ a) (negative_ℚ a) two.2 two.2))),
       ≤ℚ_from (neg_ℚ (x.at n)) (bound_of x)
           (subst (λ z. whole (pos 0) ≤ℚ z)
           (ring_by_ℚ vs ((number (pos 1) ⊟ (v1 ⊟ v0)) ⊞ (v2 ⊞ v2)) (((v2 ⊞ v3) ⊞ number (pos 1)) ⊟ negated v0)
           (negated (number (pos 1))) v1 (v2 ⊟ v3) refl two.0)
-          (sum_known (whole (pos 1) -ℚ (a -ℚ x.at n)) (positive_ℚ a +ℚ positive_ℚ a)
+          (sum_not_negative (whole (pos 1) -ℚ (a -ℚ x.at n)) (positive_ℚ a +ℚ positive_ℚ a)
           ((≤ℚ-minus (a -ℚ x.at n) (whole (pos 1))).0 (x.close (whole (pos 1)) one_some first n here h))
-          (sum_known (positive_ℚ a) (positive_ℚ a) two.1 two.1))),
+          (sum_not_negative (positive_ℚ a) (positive_ℚ a) two.1 two.1))),
     )
 
 -- from where on the terms of a product are within e
