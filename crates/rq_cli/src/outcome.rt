@@ -52,8 +52,28 @@ impl Outcome {
             Fault::Sink => Outcome::SinkFault,
             Fault::Halt(Halt::Refused(refusal)) => Outcome::Refused(refusal),
             Fault::Halt(Halt::OutOfMemory) => Outcome::OutOfMemory,
-            Fault::Halt(Halt::PivotLimit { place, limit, trail }) => Outcome::PivotLimit { place, limit, trail },
-            Fault::Halt(Halt::Overflow { place, trail, spill }) => Outcome::Overflow { place, trail, spill },
+            Fault::Halt(
+                Halt::PivotLimit {
+                    place,
+                    limit,
+                    trail,
+                },
+            ) => Outcome::PivotLimit {
+                place,
+                limit,
+                trail,
+            },
+            Fault::Halt(
+                Halt::Overflow {
+                    place,
+                    trail,
+                    spill,
+                },
+            ) => Outcome::Overflow {
+                place,
+                trail,
+                spill,
+            },
             Fault::Halt(Halt::Rejected(rejection)) => Outcome::Rejected(rejection),
         }
     }

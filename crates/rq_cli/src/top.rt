@@ -9,7 +9,9 @@ ghost use Rattle.rq_cli.specs.Steps.{outcome_of, IsSourceFault, IsWordFault, Was
 
 use crate::outcome::Outcome;
 use port_io::{Failed, ReadFault, Sink, Source, read_all, write_all};
-use report_text::{Fault, Halt, MEMORY_LINE, Refusal, Report, SINK_LINE, SOURCE_LINE, fault_line, report_bytes};
+use report_text::{
+    Fault, Halt, MEMORY_LINE, Refusal, Report, SINK_LINE, SOURCE_LINE, fault_line, report_bytes,
+};
 use rq_engine::answer;
 use rq_fan::Gate;
 use rq_words::{Job, WordFault, read_words};
@@ -216,14 +218,14 @@ fn tell<E: Sink>(alloc: Global, fault: Fault, err: &mut E) -> Outcome
 }
 
 // Writes the line of a fault, which is the outcome unless the sink fails.
-fn write_line<E: Sink>(err: &mut E, line: &[u8], fault: Outcome) -> Outcome
-    requires { line.now ≡ outcome_line fault }
-    ensures { WasTold fault result (stream (E.written err.old) (E.faults err.old)) (stream (E.written err.new) (E.faults err.new)) }
+fn write_line<E: Sink>(err: &mut E, line: &[u8], outcome: Outcome) -> Outcome
+    requires { line.now ≡ outcome_line outcome }
+    ensures { WasTold outcome result (stream (E.written err.old) (E.faults err.old)) (stream (E.written err.new) (E.faults err.new)) }
 {
     match write_all(err, line) {
-        Ok(()) => fault,
+        Ok(()) => outcome,
         Err(Failed) => {
-            drop(fault);
+            drop(outcome);
             Outcome::SinkFault
         }
     }
