@@ -2,21 +2,17 @@
 use Rattle.std.specs.Prelude.{◌≡◌, ℕ, zero, suc, ℤ, ◌+◌, ◌<◌, ◌+ℤ◌, ◌*ℤ◌, List, [], ◌∷◌, length, drop, get_or, pos, unsigned_abs}
 use Rattle.std.proofs.Common.{arith, refl, sym, ap, ◌∙◌}
 use Rattle.frac_core.proofs.Signs.{zero_by_size}
+use Rattle.std.proofs.lemmas.Int.{ints}
+use Rattle.std.proofs.lemmas.List.{get_or_default}
 use Rattle.wide_int.specs.Numbers.{total}
 use Rattle.wide_int.proofs.Totals.{stepped, total-next}
-
--- within a list the number that is read doesn't depend on the one for what lies beyond
-get_same : (xs : List ℤ) (i : ℕ) (d e : ℤ) → i < length xs → get_or xs i d ≡ get_or xs i e
-get_same [] i d e l = absurd (omega arith)
-get_same (x ∷ xs) zero d e l = refl
-get_same (x ∷ xs) (suc i) d e l = get_same xs i d e (omega arith)
 
 pub one_product : (xs ys : List ℤ) (i : ℕ) (sum y next : ℤ) → i < length xs → i < length ys → total xs ys ≡ sum +ℤ total (drop i xs) (drop i ys) → y ≡ get_or ys i y
     → next ≡ sum +ℤ get_or xs i (pos 0) *ℤ y → total xs ys ≡ next +ℤ total (drop (i + 1) xs) (drop (i + 1) ys)
 one_product xs ys i sum y next lx ly before is made =
     stepped (total xs ys) sum next (get_or xs i (pos 0) *ℤ y) (total (drop (i + 1) xs) (drop (i + 1) ys)) (total (drop i xs) (drop i ys)) before
-    (total-next i xs ys (pos 0) lx ly ∙ ap (λ z. (get_or xs i (pos 0) *ℤ z) +ℤ total (drop (i + 1) xs) (drop (i + 1) ys)) (get_same ys i (pos 0) y ly ∙ sym is)) made
+    (total-next i xs ys (pos 0) lx ly ∙ ap (λ z. (get_or xs i (pos 0) *ℤ z) +ℤ total (drop (i + 1) xs) (drop (i + 1) ys)) (get_or_default ys i (pos 0) y ly ∙ sym is)) made
 
 -- a number of a list is 0 whose size is
 pub zero_read : (xs : List ℤ) (i : ℕ) (x : ℤ) → i < length xs → x ≡ get_or xs i x → unsigned_abs x ≡ 0 → get_or xs i (pos 0) ≡ pos 0
-zero_read xs i x l is none = get_same xs i (pos 0) x l ∙ sym is ∙ zero_by_size x none
+zero_read xs i x l is none = get_or_default xs i (pos 0) x l ∙ sym is ∙ zero_by_size x none

@@ -1,7 +1,6 @@
 -- A product more is added, and a product less is left.
-use Rattle.std.proofs.Common.{◌≡◌, ◌+ℤ◌, ◌*ℤ◌, pos, get_or, arith, rules, sym, ap, ◌∙◌}
-use Rattle.std.proofs.lemmas.Int.{ints}
-use Rattle.wide_int.proofs.Totals.{total-past}
+use Rattle.std.proofs.Common.{◌≡◌, ◌+ℤ◌, ◌*ℤ◌, pos, get_or, arith, rules}
+use Rattle.wide_int.proofs.Totals.{sum_all}
 use Rattle.gram_check.proofs.Products.{one_product}
 use Rattle.gram_check.proofs.equations.sum_of_products.Goals as goal
 
@@ -14,6 +13,4 @@ loop-i-preserved c =
     one_product a b i c.loop-i.sum c.index-numerators-i.result c.in_ok-sum.sum c.loop-i-test.true (omega (arith, c.loop-i-test.true, c.requires)) c.loop-i.invariant c.index-numerators-i.is made
 
 pub returns : goal.returns
-returns c =
-    let none = total-past c.loop-i.i c.args.row.now c.args.numerators.now c.loop-i-test.false in
-    sym (c.loop-i.invariant ∙ ap (λ t. c.loop-i.sum +ℤ t) none ∙ omega (arith, ints))
+returns c = sum_all c.args.row.now c.args.numerators.now c.loop-i.i c.loop-i.sum c.loop-i-test.false c.loop-i.invariant
