@@ -52,9 +52,11 @@ pub(crate) fn rest(
     requires { length row.now ≡ length factors.now.numerators }
     ensures { IfOk result (λ n. n ≡ (own *ℤ pos factors.now.denominator) +ℤ neg_ℤ (total row.now factors.now.numerators)) }
 {
-    let sum = sum_of_products(alloc, row, factors.numerators.as_slice())?;
     let whole = Integer::new(alloc, own)?;
-    let times = whole.times(alloc, &factors.denominator)?;
+    let times = whole.times(alloc, &factors.denominator);
+    drop(whole);
+    let times = times?;
+    let sum = sum_of_products(alloc, row, factors.numerators.as_slice())?;
     let number = times.add(alloc, &sum.neg())?;
     Ok(number)
 }

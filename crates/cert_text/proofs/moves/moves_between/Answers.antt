@@ -1,5 +1,4 @@
 use Rattle.std.proofs.Common.{◌++◌, drop, sym, ap, ◌∙◌, arith, append-nil}
-use Rattle.std.proofs.lemmas.Grind.{common_steps}
 use Rattle.std.proofs.lemmas.List.{drop_all}
 use Rattle.cert_text.specs.Chains.{moves_from}
 use Rattle.cert_text.proofs.OneByOne.{none_left}
@@ -12,6 +11,3 @@ returns-then-row-later c =
     let earlier = drop i c.args.earlier.now in
     sym (c.loop-row.invariant ∙ ap (λ l. found ++ moves_from i earlier l) (drop_all i c.args.later.now (omega (arith, c.if-row-later.true)))
     ∙ ap (λ l. found ++ l) (none_left i earlier) ∙ append-nil found)
-
-pub loop-row-preserved : goal.loop-row-preserved
-loop-row-preserved c = grind (arith, common_steps)

@@ -1,6 +1,0 @@
-use Rattle.std.proofs.Common.{arith}
-use Rattle.std.proofs.lemmas.Grind.{common_steps}
-use Rattle.cert_text.proofs.vertex.sides_to_json.Goals as goal
-
-pub loop-side-preserved : goal.loop-side-preserved
-loop-side-preserved c = grind (arith, common_steps)
