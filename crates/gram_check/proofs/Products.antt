@@ -1,8 +1,7 @@
 -- A sum of products that grows by one.
-use Rattle.std.specs.Prelude.{◌≡◌, ℕ, zero, suc, ℤ, ◌+◌, ◌<◌, ◌+ℤ◌, ◌*ℤ◌, List, [], ◌∷◌, length, drop, get_or, pos, unsigned_abs}
-use Rattle.std.proofs.Common.{arith, refl, sym, ap, ◌∙◌}
+use Rattle.std.specs.Prelude.{◌≡◌, ℕ, ℤ, ◌+◌, ◌<◌, ◌+ℤ◌, ◌*ℤ◌, List, length, drop, get_or, pos, unsigned_abs}
+use Rattle.std.proofs.Common.{sym, ap, ◌∙◌}
 use Rattle.frac_core.proofs.Signs.{zero_by_size}
-use Rattle.std.proofs.lemmas.Int.{ints}
 use Rattle.std.proofs.lemmas.List.{get_or_default}
 use Rattle.wide_int.specs.Numbers.{total}
 use Rattle.wide_int.proofs.Totals.{stepped, total-next}
