@@ -8,7 +8,6 @@ use Rattle.loss_model.specs.declared.vertex.Vertex.{Vertex}
 use Rattle.loss_model.specs.Problem.{value_at}
 use Rattle.basis_model.specs.Basis.{IsBasis}
 use Rattle.walk_model.specs.Families.{dual_in}
-use Rattle.walk_model.proofs.Tested.{values}
 use Rattle.rank_walk_model.specs.Crossings.{parameter_of}
 use Rattle.rank_walk_model.specs.Ends.{AreValuesOf}
 use Rattle.rank_inversion.specs.declared.station.Station.{Station}

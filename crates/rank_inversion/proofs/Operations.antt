@@ -1,2 +1,1 @@
 -- An operation by its operands.
-use Rattle.gram_matrix.proofs.Rows.{operation}

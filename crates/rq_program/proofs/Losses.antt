@@ -12,7 +12,7 @@ use Rattle.frac_core.specs.declared.frac128.Frac128.{Frac128}
 use Rattle.frac_core.specs.Values.{exact, value}
 use Rattle.loss_model.specs.declared.problem.Row.{Row}
 use Rattle.loss_model.specs.Problem.{sample, value_at}
-use Rattle.loss_model.specs.Sample.{loss, residual, row_loss}
+use Rattle.loss_model.specs.Sample.{loss, row_loss}
 use Rattle.loss_model.specs.Spill.{abs_ℚ}
 use Rattle.loss_model.proofs.Duality.{cost_above, cost_below}
 use Rattle.loss_model.specs.Values.{exact_row}

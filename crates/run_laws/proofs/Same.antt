@@ -1,5 +1,5 @@
 -- What is seen alike is the same: fractions of 128 bits by their values, and what is made of them.
-use Rattle.std.proofs.Common.{◌≡◌, ◌-◌, Option, Some, None, option_map, refl, ap}
+use Rattle.std.proofs.Common.{◌≡◌, Option, Some, None, option_map, refl, ap}
 use Rattle.rational_laws.proofs.Lists.{same_lists}
 use Rattle.frac_core.specs.declared.frac128.Frac128.{Frac128}
 use Rattle.frac_core.specs.Values.{exact}
