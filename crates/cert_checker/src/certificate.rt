@@ -69,34 +69,25 @@ fn decide_first(alloc: Global, cert: &Cert) -> Result<(), Halt>
         lo: cert.lo,
         hi: cert.hi,
     };
-    Then {
-        first: Rows {
+    Then(
+        Rows {
             problem,
             of: RowForm { problem },
         },
-        rest: Then {
-            first: Segments {
+        Then(
+            Segments {
                 list,
                 of: SegmentForm { problem },
             },
-            rest: Then {
-                first: Intervals {
+            Then(
+                Intervals {
                     list: &cert.intervals,
                     of: IntervalForm { problem },
                 },
-                rest: Then {
-                    first: Then {
-                        first: range,
-                        rest: costs,
-                    },
-                    rest: Then {
-                        first: some,
-                        rest: ends,
-                    },
-                },
-            },
-        },
-    }
+                Then(Then(range, costs), Then(some, ends)),
+            ),
+        ),
+    )
     .decide(alloc)
 }
 

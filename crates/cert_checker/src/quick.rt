@@ -142,8 +142,8 @@ impl SegmentTests for Balances<'_> {
             vertex: &segment.vertex,
             basic: &segment.basic_hi,
         };
-        Then {
-            first: Columns {
+        Then(
+            Columns {
                 problem,
                 of: BalanceColumns {
                     index,
@@ -151,7 +151,7 @@ impl SegmentTests for Balances<'_> {
                     end: low,
                 },
             },
-            rest: Columns {
+            Columns {
                 problem,
                 of: BalanceColumns {
                     index,
@@ -159,7 +159,7 @@ impl SegmentTests for Balances<'_> {
                     end: high,
                 },
             },
-        }
+        )
         .decide(alloc)
     }
 }
@@ -206,11 +206,7 @@ impl SegmentTests for Losses<'_> {
             },
             stated: segment.loss_hi,
         };
-        Then {
-            first: low,
-            rest: high,
-        }
-        .decide(alloc)
+        Then(low, high).decide(alloc)
     }
 }
 

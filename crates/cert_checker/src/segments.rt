@@ -18,7 +18,8 @@ ghost use Rattle.loss_model.specs.declared.vertex.Side.TheVariants.{Basic};
 
 use crate::formula::{Composed, Count, Negation, Number};
 use crate::leaves::{
-    BalanceTerms, DownCost, DualValue, EndView, LossTerms, ObjectiveTerms, RowSum, UpCost, rows,
+    BalanceTerms, DownCost, DualValue, EndView, LossTerms, ObjectiveTerms, PricedRow, RowSum,
+    UpCost, rows,
 };
 use crate::place::Place;
 use crate::relation::Relation;
@@ -46,10 +47,12 @@ impl Tests for CostsAt<'_> {
     ghost few = { λ x. (x.row < 16384) × (x.inner ≤ 3) };
 
     fn decide(self, alloc: Global) -> Result<(), Halt> {
-        let problem = self.problem;
-        let theta = self.theta;
-        let row = self.row;
-        let index = row as u32 + 1;
+        let of = PricedRow {
+            problem: self.problem,
+            theta: self.theta,
+            row: self.row,
+        };
+        let index = self.row as u32 + 1;
         let up = One {
             at: Place {
                 condition: 2,
@@ -57,11 +60,7 @@ impl Tests for CostsAt<'_> {
                 inner: self.inner,
             },
             parts: Comparison {
-                left: UpCost {
-                    problem,
-                    theta,
-                    row,
-                },
+                left: UpCost(of),
                 relation: Relation::AtLeast,
                 right: Count(0),
             },
@@ -73,20 +72,12 @@ impl Tests for CostsAt<'_> {
                 inner: self.inner + 1,
             },
             parts: Comparison {
-                left: DownCost {
-                    problem,
-                    theta,
-                    row,
-                },
+                left: DownCost(of),
                 relation: Relation::AtLeast,
                 right: Count(0),
             },
         };
-        Then {
-            first: up,
-            rest: down,
-        }
-        .decide(alloc)
+        Then(up, down).decide(alloc)
     }
 }
 
@@ -116,11 +107,7 @@ impl TestsOf for CostRows<'_> {
             row: i,
             inner: 3,
         };
-        Then {
-            first: low,
-            rest: high,
-        }
-        .decide(alloc)
+        Then(low, high).decide(alloc)
     }
 }
 
@@ -145,32 +132,26 @@ impl<'a> ComposedParts for BasicBounds<'a> {
     ghost composed_parts = { λ x. bound_parts (sample value128 x.end.problem.now) (end_of x.end) x.row Basic };
 
     fn whole(self) -> Within<'a> {
-        let problem = self.end.problem;
-        let theta = self.end.theta;
-        let row = self.row;
-        let dual = DualValue { end: self.end, row };
+        let of = PricedRow {
+            problem: self.end.problem,
+            theta: self.end.theta,
+            row: self.row,
+        };
+        let dual = DualValue {
+            end: self.end,
+            row: self.row,
+        };
         let under = Comparison {
             left: dual,
             relation: Relation::AtMost,
-            right: UpCost {
-                problem,
-                theta,
-                row,
-            },
+            right: UpCost(of),
         };
         let over = Comparison {
             left: dual,
             relation: Relation::AtLeast,
-            right: Negation(DownCost {
-                problem,
-                theta,
-                row,
-            }),
+            right: Negation(DownCost(of)),
         };
-        Both {
-            first: under,
-            rest: over,
-        }
+        Both(under, over)
     }
 }
 
@@ -298,11 +279,7 @@ impl Tests for LossAt<'_> {
                 },
             },
         };
-        Then {
-            first: loss,
-            rest: objective,
-        }
-        .decide(alloc)
+        Then(loss, objective).decide(alloc)
     }
 }
 

@@ -29,7 +29,7 @@ use Rattle.whole_steps.specs.declared.crossings.Quotient.{Quotient}
 use Rattle.whole_steps.specs.Crossings.{quotient_value}
 use Rattle.whole_tableau.specs.Kept.{Kept, IsKept, wholes_of, place}
 use Rattle.whole_tableau.specs.Steps.{IsStationOf}
-use Rattle.whole_tableau.proofs.Stations.{rows_within, carried, mover_back}
+use Rattle.whole_tableau.proofs.Stations.{rows_within, moves_is, carried, mover_back}
 use Rattle.rank_steps.specs.Ways.{way_of}
 use Rattle.rank_steps.specs.Entering.{IsEnteringOrNone}
 use Rattle.rank_tableau.specs.declared.course.Course.{Course}
@@ -55,9 +55,6 @@ module _ {F : Type 0} (value : F → Fraction) (k : Kept F) (h : IsKept value k)
   abbrev p : Sample
   p = sample value k.problem
 
-  abbrev q : Sample
-  q = wholes_of k
-
   abbrev at : ℕ → ℕ
   at = slice_index k.rows
 
@@ -66,9 +63,6 @@ module _ {F : Type 0} (value : F → Fraction) (k : Kept F) (h : IsKept value k)
 
   abbrev s : ℕ → ℚ
   s = factor_at k.setting.wholes.factors
-
-  abbrev ly : ℚ
-  ly = factor_value k.setting.wholes.response
 
   abbrev lc : ℚ
   lc = factor_value k.setting.wholes.cost
@@ -88,7 +82,8 @@ module _ {F : Type 0} (value : F → Fraction) (k : Kept F) (h : IsKept value k)
   pub next_here : IsBreakFrom value (place value k) c from (record { theta = theta; position = b.position; direction = b.direction })
   next_here =
       first_is_next value p c.column tau at (unscaled s a) lj (way_of c.way) (parameter_at value c from) stop (record { theta = theta; position = b.position; direction = b.direction })
-      (first_back p q s ly lc h.setting.scaled a at (rows_within value k h) h.setting.response h.setting.cost tau c.column ps (way_of c.way) value quotient_value b theta scaled_theta
+      (first_back p (wholes_of k) s (factor_value k.setting.wholes.response) lc h.setting.scaled a at (rows_within value k h) h.setting.response h.setting.cost tau c.column ps (way_of c.way) value quotient_value b
+      theta scaled_theta
       (carried value k h t is.rows is.at is.inverse
       (λ q at a e. IsFirst quotient_value (λ m d. IsMoving (way_of c.way) d (a c.column m))
       (λ m d. parameter_of (way_of c.way) ((bound_towards q (rational (value c.tau)) (at m) d -ℚ dual_value q at a (rational (value c.tau)) m) *ℚ inverse (a c.column m))) k.problem.columns b)
@@ -109,7 +104,7 @@ module _ {F : Type 0} (value : F → Fraction) (k : Kept F) (h : IsKept value k)
         where
           still : (i : ℕ) → i < length k.problem.rows → moves (sample value k.problem) (slice_index k.rows) (place value k).inverse b.position b.direction i ≡ false
           still i li =
-              sym (moves-scaled p q s ly lc h.setting.scaled a at (rows_within value k h) h.setting.response h.setting.cost b.position b.direction i li)
+              sym (moves_is value k h b.position b.direction i li)
               ∙ carried value k h t is.rows is.at is.inverse (λ q at a e. moves q at a b.position b.direction i ≡ false)
               (none i (subst (λ n. i < n) (sym (ap (λ (xs : List WholeRow). length xs) is.rows ∙ h.setting.scaled.rows)) li))
 
