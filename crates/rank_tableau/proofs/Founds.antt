@@ -18,7 +18,6 @@ use Rattle.rank_walk_model.specs.Crossings.{parameter_of, bound_towards, IsMovin
 use Rattle.fraction_tableau.specs.declared.crossings.Breakpoint.{Breakpoint}
 use Rattle.fraction_tableau.specs.Crossings.{IsFirst}
 use Rattle.whole_rows.specs.Scaled.{unscaled}
-use Rattle.whole_rows.proofs.StepLaws.{moves-scaled}
 use Rattle.whole_inverse.specs.Squares.{inverse_of}
 use Rattle.whole_rows.specs.declared.factor.Factor.{Factor}
 use Rattle.whole_rows.specs.declared.rows.WholeRow.{WholeRow}
