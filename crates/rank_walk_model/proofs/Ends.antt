@@ -1,10 +1,6 @@
 -- The ends that the walks hand out.
-use Rattle.std.specs.Prelude.{◌≡◌, ◌≢◌, ℕ, ◌<◌, Bool, true, false, List, length, slice_get, slice_index, Contains, Some, [], pos}
-use Rattle.std.specs.Option.{option_map_or}
-use Rattle.std.specs.declared.cmp.Ordering.{Ordering}
-use Rattle.std.specs.declared.cmp.Ordering.TheVariants.{Less, Equal, Greater}
+use Rattle.std.specs.Prelude.{◌≡◌, ◌≢◌, ℕ, ◌<◌, List, length, slice_get, slice_index, Some, [], pos}
 use Rattle.std.proofs.Common.{refl, sym, ap, subst, ◌∙◌, inl, inr}
-use Rattle.std.proofs.lemmas.List.{get_or_default}
 use Rattle.std.proofs.lemmas.Option.{slice_get_within}
 use Rattle.rational_laws.specs.Fraction.{Fraction}
 use Rattle.rational_laws.specs.Solver.{number, negated, ◌⊠◌}
@@ -19,9 +15,8 @@ use Rattle.loss_model.specs.declared.vertex.Side.{Side}
 use Rattle.loss_model.specs.declared.vertex.Vertex.{Vertex}
 use Rattle.loss_model.specs.Sample.{Sample, up_cost, down_cost, fitted, residual}
 use Rattle.loss_model.specs.Problem.{value_at, sample}
-use Rattle.loss_model.specs.Vertex.{value_of_side, basic_value, dual_value, IsOn}
-use Rattle.loss_model.proofs.Vertices.{basic_value-at}
-use Rattle.basis_model.specs.Perturbed.{side_of, held_coordinate}
+use Rattle.loss_model.specs.Vertex.{dual_value, IsOn}
+use Rattle.basis_model.specs.Perturbed.{held_coordinate}
 use Rattle.basis_model.specs.Basis.{IsBasis, coefficient, side_at}
 use Rattle.pivot_model.specs.Results.{IsVertexAt}
 use Rattle.pivot_model.proofs.Among.{among_place}
@@ -30,6 +25,8 @@ use Rattle.pivot_model.proofs.Sides.{sign, side_basic, side_outside, on_side}
 use Rattle.walk_model.specs.Families.{Family, by_weight, basic_at, dual_in}
 use Rattle.walk_model.specs.Walks.{IsNextBreak}
 use Rattle.walk_model.proofs.Balanced.{dual_basic}
+use Rattle.pivot_model.proofs.Entering.{double_neg}
+use Rattle.pivot_model.proofs.Solved.{value_by_side}
 use Rattle.loss_model.specs.declared.interval.Bound.{Bound}
 use Rattle.loss_model.specs.declared.interval.Bound.TheVariants.{Finite, Infinite}
 use Rattle.loss_model.specs.declared.interval.Beyond.{Beyond}
@@ -86,42 +83,8 @@ module _ {F : Type 0} (value : F → Fraction) (p : Problem F) (tau : ℚ) (righ
   f = record { sample = q; parameter = by_weight tau; right = right }
 
   -- the values of a list by rows are those of the walk
-  module _ (s : ℚ) (list : List F) (are : AreValuesOf value v (dual_in f (slice_index basis) a s) list) where
-    abbrev held : ℕ → ℚ
-    held = held_coordinate p.columns (slice_index basis) (basic_at f (slice_index basis) a s)
-
-    basic_row : (i : ℕ) → is_basic q (slice_index basis) a i ≡ true → basic_value value v list i ≡ held i
-    basic_row i e =
-        let place : (k : ℕ) × (k < p.columns) × (slice_index basis k ≡ i) = among_place (slice_index basis) p.columns i e in
-        let within : place.0 < length basis = subst (λ n. place.0 < n) (sym size) place.1 in
-        let there : Contains v.basis.rows i = (vertex.rows i).1 (place.0, within, get_or_default basis place.0 i 0 within ∙ place.2) in
-        let at : slice_index v.basis.rows there.0 ≡ i = get_or_default v.basis.rows there.0 0 i there.1 ∙ there.2 in
-        ap (basic_value value v list) (sym at)
-        ∙ basic_value-at value v list vertex.shape.ascending there.0 there.1
-        ∙ are.each there.0 there.1
-        ∙ ap (dual_in f (slice_index basis) a s) at
-        ∙ dual_basic f (slice_index basis) a b s i e
-
-    same_value : (i : ℕ) → value_of_side q tau (basic_value value v list) i (side_at q (slice_index basis) a i) ≡ dual_in f (slice_index basis) a s i
-    same_value i = by (is_basic q (slice_index basis) a i) refl
-      where
-        outside : (o : Ordering) → value_of_side q tau (basic_value value v list) i (side_of o) ≡ value_of_side q tau held i (side_of o)
-        outside Greater = refl
-        outside Less = refl
-        outside Equal = refl
-
-        by : (t : Bool) → is_basic q (slice_index basis) a i ≡ t → value_of_side q tau (basic_value value v list) i (side_at q (slice_index basis) a i) ≡ dual_in f (slice_index basis) a s i
-        by true e =
-            ap (value_of_side q tau (basic_value value v list) i) (side_basic q (slice_index basis) a i e)
-            ∙ basic_row i e ∙ sym (dual_basic f (slice_index basis) a b s i e)
-        by false e =
-            ap (value_of_side q tau (basic_value value v list) i) (side_outside q (slice_index basis) a i e)
-            ∙ outside (sign q (slice_index basis) a i)
-            ∙ sym (ap (value_of_side q tau held i) (side_outside q (slice_index basis) a i e))
-
-    values_are : (i : ℕ) → i < length p.rows → dual_value value p v list tau i ≡ dual_in f (slice_index basis) a s i
-    values_are i li =
-        ap (λ o. option_map_or (value_of_side q tau (basic_value value v list) i) o (whole (pos 0))) (vertex.sides i li) ∙ same_value i
+  values_are : (s : ℚ) (list : List F) → AreValuesOf value v (dual_in f (slice_index basis) a s) list → (i : ℕ) → i < length p.rows → dual_value value p v list tau i ≡ dual_in f (slice_index basis) a s i
+  values_are s list are = value_by_side value p tau basis a v list size vertex (held_coordinate p.columns (slice_index basis) (basic_at f (slice_index basis) a s)) are.each
 
   -- residuals lie on the sides of the vertex
   on : (i : ℕ) (side : Side) → slice_get v.sides i ≡ Some side → IsOn side (residual q (value_at value v.coef) i)
