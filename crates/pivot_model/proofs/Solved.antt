@@ -25,7 +25,7 @@ use Rattle.pivot_model.proofs.Bounds.{is_basic}
 use Rattle.pivot_model.specs.Steps.{HasNoNegativeSlope}
 use Rattle.pivot_model.specs.Results.{IsVertexAt, AreBasicDuals}
 use Rattle.pivot_model.proofs.Among.{among_place}
-use Rattle.pivot_model.proofs.Sides.{sign, side_basic, side_outside, dual_basic}
+use Rattle.pivot_model.proofs.Sides.{sign, side_basic, side_outside}
 use Rattle.pivot_model.proofs.Optimal.{optimal}
 
 -- the rows of a basis suffice for full rank

@@ -19,13 +19,9 @@ use Rattle.loss_model.specs.Vertex.{dual_value, IsOn}
 use Rattle.basis_model.specs.Perturbed.{held_coordinate}
 use Rattle.basis_model.specs.Basis.{IsBasis, coefficient, side_at}
 use Rattle.pivot_model.specs.Results.{IsVertexAt}
-use Rattle.pivot_model.proofs.Among.{among_place}
-use Rattle.pivot_model.proofs.Bounds.{is_basic}
-use Rattle.pivot_model.proofs.Sides.{sign, side_basic, side_outside, on_side}
+use Rattle.pivot_model.proofs.Sides.{on_side}
 use Rattle.walk_model.specs.Families.{Family, by_weight, basic_at, dual_in}
 use Rattle.walk_model.specs.Walks.{IsNextBreak}
-use Rattle.walk_model.proofs.Balanced.{dual_basic}
-use Rattle.pivot_model.proofs.Entering.{double_neg}
 use Rattle.pivot_model.proofs.Solved.{value_by_side}
 use Rattle.loss_model.specs.declared.interval.Bound.{Bound}
 use Rattle.loss_model.specs.declared.interval.Bound.TheVariants.{Finite, Infinite}
