@@ -36,10 +36,8 @@ fn put_escaped(bytes: &mut Vec<u8>, piece: &[u8]) -> Option<()> {
     }
 }
 
-/// The bytes that a text stands for, if its backslashes are followed by what may follow one. Between two backslashes is nothing where they
-/// stand for one.
-pub(crate) fn bytes_of(alloc: Global, text: &str) -> Option<Vec<u8>> {
-    let mut bytes = Vec::new(alloc);
+// Puts a text that repeats nothing. Between two backslashes is nothing where they stand for one.
+fn put_once(bytes: &mut Vec<u8>, text: &str) -> Option<()> {
     let mut is_plain = true;
     for piece in text.split('\\') {
         if is_plain {
@@ -49,8 +47,41 @@ pub(crate) fn bytes_of(alloc: Global, text: &str) -> Option<Vec<u8>> {
             bytes.push(b'\\').ok()?;
             is_plain = true;
         } else {
-            put_escaped(&mut bytes, piece.as_bytes())?;
+            put_escaped(bytes, piece.as_bytes())?;
         }
+    }
+    Some(())
+}
+
+// Puts a text in which the number of its time stands between two pieces.
+fn put_numbered(bytes: &mut Vec<u8>, text: &str, time: &str) -> Option<()> {
+    let Some((before, after)) = text.split_once("\\#") else {
+        return put_once(bytes, text);
+    };
+    put_once(bytes, before)?;
+    bytes.extend_from_slice(time.as_bytes()).ok()?;
+    put_once(bytes, after)
+}
+
+// Puts a text so many times.
+fn put_times(alloc: Global, bytes: &mut Vec<u8>, times: u32, text: &str) -> Option<()> {
+    for time in 0..times {
+        let time = time.wrapping_add(1).to_string(alloc).ok()?;
+        put_numbered(bytes, text, time.as_str())?;
+    }
+    Some(())
+}
+
+/// The bytes that a text stands for, if its backslashes are followed by what may follow one.
+pub(crate) fn bytes_of(alloc: Global, text: &str) -> Option<Vec<u8>> {
+    let mut bytes = Vec::new(alloc);
+    let mut parts = text.split("\\(");
+    put_once(&mut bytes, parts.next()?)?;
+    for part in parts {
+        let (repeated, rest) = part.split_once("\\)")?;
+        let (times, repeated) = repeated.split_once(' ')?;
+        put_times(alloc, &mut bytes, times.parse::<u32>().ok()?, repeated)?;
+        put_once(&mut bytes, rest)?;
     }
     Some(bytes)
 }
