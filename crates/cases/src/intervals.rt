@@ -8,11 +8,11 @@ ghost use Rattle.rank_inversion.specs.GramStops.{IsInverted};
 
 use crate::losses::problem_of;
 use crate::told::Told;
+use crate::trails::{tell_rows, tell_stop, tell_trail, tell_vertex};
 use basis_inverse::{Inverse, start};
 use frac_core::{Exact, Frac64, Frac128, read_number};
 use loss_model::{
-    Beyond, Bound, End, Exchange, Interval, Problem, Side, Stop, Trail, narrow_problem,
-    widen_interval, widen_stop,
+    Beyond, Bound, End, Interval, Problem, Stop, narrow_problem, widen_interval, widen_stop,
 };
 use rank_inversion::{
     Asked, GramInverse, RankTest, gram_inverse, interval, interval_by_parts, interval_in_wholes,
@@ -23,68 +23,18 @@ use test_kit::{are_data, is_less, is_ordered, is_shaped};
 
 // ---- what is told
 
-fn tell_rows(told: &mut Told, rows: &[u32]) {
-    for row in rows {
-        told.put_named(" ", *row);
-    }
-}
-
-// The rows of a start, where a position without one has `-`.
-fn tell_start(told: &mut Told, rows: &[Option<u32>]) {
-    told.put("start");
-    for row in rows {
-        match row {
-            Some(row) => told.put_named(" ", *row),
-            None => told.put(" -"),
-        }
-    }
-}
-
-// Steps by the parameter, the position and the row.
-fn tell_steps<F: Exact>(told: &mut Told, name: &str, steps: &[Exchange<F>]) {
-    told.put(name);
-    for step in steps {
-        told.put(" ");
-        told.put_fraction(step.theta);
-        told.put_named("@", step.position);
-        told.put_named(":", step.row);
-    }
-}
-
-fn tell_trail<F: Exact>(told: &mut Told, trail: &Trail<F>) {
-    tell_start(told, trail.start.as_slice());
-    tell_steps(told, " steps", trail.steps.as_slice());
-    tell_steps(told, " rise", trail.rise.as_slice());
-    tell_steps(told, " fall", trail.fall.as_slice());
-}
-
-fn tell_sides(told: &mut Told, sides: &[Side]) {
-    for side in sides {
-        told.put(match side {
-            Side::Up => "+",
-            Side::Down => "-",
-            Side::Basic => "*",
-        });
-    }
-}
-
-// The value of an end, and the rows of its vertex.
-fn tell_bound<F: Exact>(told: &mut Told, end: &End<F>) {
-    match end.bound {
+fn tell_bound<F: Exact>(told: &mut Told, bound: Bound<F>) {
+    match bound {
         Bound::Finite(value) => told.put_fraction(value),
         Bound::Infinite => told.put("none"),
     }
-    told.put(" by");
-    tell_rows(told, end.vertex.basis.rows.as_slice());
 }
 
 fn tell_end<F: Exact>(told: &mut Told, end: &End<F>) {
     told.put("; ");
-    tell_bound(told, end);
+    tell_bound(told, end.bound);
     told.put(" ");
-    tell_sides(told, end.vertex.sides.as_slice());
-    told.put(" at ");
-    told.put_fractions(end.vertex.coef.as_slice());
+    tell_vertex(told, &end.vertex);
     told.put(" inside ");
     told.put_fractions(end.inside.as_slice());
     let (name, values) = match &end.beyond {
@@ -110,35 +60,22 @@ fn tell_interval<F: Exact>(told: &mut Told, found: &Interval<F>) {
     tell_end(told, &found.high);
 }
 
+// The value of an end, and the rows of its vertex.
+fn tell_place<F: Exact>(told: &mut Told, end: &End<F>) {
+    tell_bound(told, end.bound);
+    told.put(" by");
+    tell_rows(told, end.vertex.basis.rows.as_slice());
+}
+
 // An interval as a word asks for it.
 fn tell_found<F: Exact>(told: &mut Told, word: &str, found: &Interval<F>) {
     match word {
         "interval" => tell_interval(told, found),
         _ => {
-            tell_bound(told, &found.low);
+            tell_place(told, &found.low);
             told.put("; ");
-            tell_bound(told, &found.high);
+            tell_place(told, &found.high);
         }
-    }
-}
-
-fn tell_stop<F: Exact>(told: &mut Told, stop: &Stop<F>) {
-    match stop {
-        Stop::PivotLimit { limit, trail } => {
-            told.put_named("PivotLimit ", *limit);
-            told.put("; ");
-            tell_trail(told, trail);
-        }
-        Stop::Overflow { trail, spill } => {
-            told.put_spill(*spill);
-            told.put("; ");
-            tell_trail(told, trail);
-        }
-        Stop::Dependent { combination } => {
-            told.put("Dependent ");
-            told.put_fractions(combination.as_slice());
-        }
-        Stop::OutOfMemory => told.put("no memory"),
     }
 }
 
