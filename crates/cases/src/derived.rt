@@ -1,7 +1,7 @@
-//! What the cases of a file ask of problems that are derived from a problem.
+//! What the cases of a file ask of problems that are derived from a problem, and of solves.
 
 use crate::told::Told;
-use crate::{grams, paths};
+use crate::{grams, paths, solves};
 
 /// What is asked.
 #[derive(Clone, Copy)]
@@ -10,6 +10,7 @@ pub(crate) enum Derived {
     PathSizes,
     Grams,
     Products,
+    Solves,
 }
 
 /// The kind of the cases of a file, by its name without its ending.
@@ -19,6 +20,7 @@ pub(crate) fn derived_of(name: &str) -> Option<Derived> {
         "path_sizes" => Derived::PathSizes,
         "grams" => Derived::Grams,
         "products" => Derived::Products,
+        "solves" | "starts" | "limits" => Derived::Solves,
         _ => return None,
     };
     Some(derived)
@@ -31,5 +33,6 @@ pub(crate) fn tell(told: &mut Told, derived: Derived, shared: &str, asked: &str)
         Derived::PathSizes => paths::tell_size(told, asked),
         Derived::Grams => grams::tell(told, shared, asked),
         Derived::Products => grams::tell_product(told, asked),
+        Derived::Solves => solves::tell(told, shared, asked),
     }
 }
