@@ -48,7 +48,9 @@ fn tell_end<F: Exact>(told: &mut Told, end: &End<F>) {
 fn tell_interval<F: Exact>(told: &mut Told, found: &Interval<F>) {
     told.put_named("", found.column);
     told.put(" ");
-    told.put_fractions(&[found.tau, found.crit]);
+    told.put_fraction(found.tau);
+    told.put(" ");
+    told.put_fraction(found.crit);
     told.put("; ");
     match &found.projection {
         Some(factors) => told.put_fractions(factors.as_slice()),
