@@ -25,7 +25,7 @@
 //!
 //! It stands on `csv` for the records, on `indexmap` for the places of names, and on `frac_core`
 //! for numbers and texts.
-//! Its tests stand in the crate `edge_tests`.
+//! Its cases stand in `cases`.
 //!
 //! `rq_input` calls it so:
 //! ```text

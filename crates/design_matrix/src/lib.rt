@@ -26,7 +26,7 @@
 //!
 //! It stands on `data_frame` for tables, on `formula_parser` for formulas, on `contrasts` for
 //! codings, and on `loss_model` for the place of an operation that overflows.
-//! Its tests stand in the crate `edge_tests`.
+//! Its cases stand in `cases`.
 //!
 //! `rq_input` calls it so:
 //! ```text

@@ -45,7 +45,7 @@
 //! stack of its own: no call is nested more deeply for a deeper or longer formula.
 //!
 //! It stands on `frac_core`, for number texts, lists and `OutOfMemory`.
-//! Its tests stand in the crate `edge_tests`.
+//! Its cases stand in `cases`.
 //!
 //! `formula_parser` calls it so:
 //! ```text

@@ -38,7 +38,7 @@
 //!
 //! It stands on `formula_grammar` for the code of a formula, on `formula_arith` for what an arithmetic
 //! is, and on `frac_core` for texts, lists and fractions.
-//! Its tests stand in the crate `edge_tests`.
+//! Its cases stand in `cases`.
 //!
 //! `rq_input` calls it so:
 //! ```text

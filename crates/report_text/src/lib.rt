@@ -7,7 +7,7 @@
 //! `rankscores` for what a fit and its rank intervals hold, on `predict_steps` for predictions, on
 //! `cert_text` and `cert_checker` for certificates and what is found to be false in them, and on
 //! `itoa`.
-//! Its tests stand in the crate `edge_tests`.
+//! Its cases stand in `cases`.
 //!
 //! `rq_cli` calls it so:
 //! ```text

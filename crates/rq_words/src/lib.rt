@@ -5,7 +5,7 @@
 //! each take one value. What the words ask for is defined over `clap`'s own definition of such a
 //! command, and over the number text of `frac_core`; the contract says that each job and each
 //! fault is the one of that definition.
-//! Its tests stand in the crate `edge_tests`.
+//! Its cases stand in `cases`.
 //!
 //! `rq_cli` calls it so:
 //! ```text
