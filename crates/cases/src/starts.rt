@@ -148,23 +148,19 @@ pub(crate) fn tell_standing<F: Exact>(told: &mut Told, problem: &Problem<F>) {
 
 // ---- in whole numbers
 
-fn tell_from<F: Exact>(told: &mut Told, tableau: &WholeTableau<'_, F>, lo: F, hi: F) {
-    let answer = tableau.segment(None, lo, hi);
-    match &answer {
-        Ok(segment) => tell_segment(told, segment),
-        Err(_) => told.put("refused"),
-    }
-    drop(answer);
-}
-
 fn tell_in_wholes<F: Exact>(told: &mut Told, problem: &Problem<F>, setting: &Setting, lo: F, hi: F)
     requires shaped { IsWellShaped problem.now }
     requires setting { IsSetting F.value problem.now setting.now }
 {
-    let answer = WholeTableau::begin(told.alloc(), problem, setting);
+    let tableau = match WholeTableau::begin(told.alloc(), problem, setting) {
+        Ok(tableau) => tableau,
+        Err(obstacle) => return told.put_debug(&obstacle),
+    };
+    let answer = tableau.segment(None, lo, hi);
+    drop(tableau);
     match &answer {
-        Ok(tableau) => tell_from(told, tableau, lo, hi),
-        Err(obstacle) => told.put_debug(obstacle),
+        Ok(segment) => tell_segment(told, segment),
+        Err(_) => told.put("refused"),
     }
     drop(answer);
 }
