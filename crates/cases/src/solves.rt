@@ -191,7 +191,6 @@ fn tell_in<F: Exact>(told: &mut Told, problem: &Problem<F>, asked: &str) {
         "start" => tell_begun(told, problem),
         "exchange" => tell_exchanged(told, problem, rest),
         "standing" => tell_standing(told, problem),
-        "stay" => tell_stay(told, problem, rest),
         _ => tell_limited(told, problem, word, rest),
     }
 }
@@ -211,6 +210,9 @@ fn tell_both(told: &mut Told, problem: &Problem<Frac128>, narrow: &Problem<Frac6
 fn tell_of(told: &mut Told, problem: &Problem<Frac128>, asked: &str) {
     if let Some(asked) = asked.strip_prefix("wide ") {
         return tell_in(told, problem, asked);
+    }
+    if let Some(ends) = asked.strip_prefix("stay ") {
+        return tell_stay(told, problem, ends);
     }
     if !is_shaped(problem) {
         return told.put("no shape");
