@@ -1,5 +1,5 @@
-//! What the cases of a file ask of the lowest crates: fractions, numbers of any size, arithmetics, codings, generated tables, losses and
-//! predictions.
+//! What the cases of a file ask of the lowest crates: fractions, numbers of 128 bits and of any size, arithmetics, codings, generated
+//! tables, losses, predictions and projections.
 
 use crate::told::Told;
 use crate::{

@@ -73,9 +73,15 @@ fn tell_solved<F: Exact>(told: &mut Told, word: &str, solved: &Solved<F>) {
     told.put_fractions(solved.basic.as_slice());
 }
 
+fn tell_both_ends<F: Exact>(told: &mut Told, lo: F, hi: F) {
+    told.put_fraction(lo);
+    told.put(" ");
+    told.put_fraction(hi);
+}
+
 /// The ends of a segment, its vertex, and the dual values of the basic rows and the loss at both ends.
 pub(crate) fn tell_segment<F: Exact>(told: &mut Told, segment: &Segment<F>) {
-    told.put_fractions(&[segment.lo, segment.hi]);
+    tell_both_ends(told, segment.lo, segment.hi);
     told.put(" ");
     tell_vertex(told, &segment.vertex);
     told.put(" from ");
@@ -83,7 +89,7 @@ pub(crate) fn tell_segment<F: Exact>(told: &mut Told, segment: &Segment<F>) {
     told.put(" to ");
     told.put_fractions(segment.basic_hi.as_slice());
     told.put(" loss ");
-    told.put_fractions(&[segment.loss_lo, segment.loss_hi]);
+    tell_both_ends(told, segment.loss_lo, segment.loss_hi);
 }
 
 // How it is reached, and its segments; or how many pivots it took.
@@ -185,7 +191,6 @@ fn tell_in<F: Exact>(told: &mut Told, problem: &Problem<F>, asked: &str) {
         "start" => tell_begun(told, problem),
         "exchange" => tell_exchanged(told, problem, rest),
         "standing" => tell_standing(told, problem),
-        "stay" => tell_stay(told, problem, rest),
         _ => tell_limited(told, problem, word, rest),
     }
 }
@@ -205,6 +210,9 @@ fn tell_both(told: &mut Told, problem: &Problem<Frac128>, narrow: &Problem<Frac6
 fn tell_of(told: &mut Told, problem: &Problem<Frac128>, asked: &str) {
     if let Some(asked) = asked.strip_prefix("wide ") {
         return tell_in(told, problem, asked);
+    }
+    if let Some(ends) = asked.strip_prefix("stay ") {
+        return tell_stay(told, problem, ends);
     }
     if !is_shaped(problem) {
         return told.put("no shape");

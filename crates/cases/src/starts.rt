@@ -2,20 +2,19 @@
 
 ghost use Rattle.std.specs.Prelude.{◌≡◌, ◌<◌, length};
 ghost use Rattle.loss_model.specs.Problem.{IsWellShaped};
-ghost use Rattle.whole_tableau.specs.Kept.{IsSetting};
 
 use crate::grams::tell_short;
-use crate::numbers::{counts_of, numbers_in};
+use crate::numbers::{counts_of, numbers_of};
 use crate::solves::tell_segment;
 use crate::told::Told;
 use crate::trails::{tell_rows, tell_sides, tell_stop};
 use basic_solution::BasicSolution;
 use basis_inverse::{Inverse, Started, start};
-use frac_core::Exact;
+use frac_core::{Exact, Frac128};
 use fraction_tableau::FractionTableau;
 use loss_model::Problem;
 use test_kit::is_shaped;
-use whole_tableau::{Setting, WholeTableau, setting_of};
+use whole_tableau::{WholeTableau, setting_of};
 
 // ---- inverses
 
@@ -148,8 +147,20 @@ pub(crate) fn tell_standing<F: Exact>(told: &mut Told, problem: &Problem<F>) {
 
 // ---- in whole numbers
 
-fn tell_from<F: Exact>(told: &mut Told, tableau: &WholeTableau<'_, F>, lo: F, hi: F) {
+fn tell_in_wholes(told: &mut Told, problem: &Problem<Frac128>, lo: Frac128, hi: Frac128)
+    requires { IsWellShaped problem.now }
+{
+    let setting = match setting_of(told.alloc(), problem) {
+        Ok(setting) => setting,
+        Err(obstacle) => return told.put_debug(&obstacle),
+    };
+    let tableau = match WholeTableau::begin(told.alloc(), problem, &setting) {
+        Ok(tableau) => tableau,
+        Err(obstacle) => return told.put_debug(&obstacle),
+    };
     let answer = tableau.segment(None, lo, hi);
+    drop(tableau);
+    drop(setting);
     match &answer {
         Ok(segment) => tell_segment(told, segment),
         Err(_) => told.put("refused"),
@@ -157,31 +168,14 @@ fn tell_from<F: Exact>(told: &mut Told, tableau: &WholeTableau<'_, F>, lo: F, hi
     drop(answer);
 }
 
-fn tell_in_wholes<F: Exact>(told: &mut Told, problem: &Problem<F>, setting: &Setting, lo: F, hi: F)
-    requires shaped { IsWellShaped problem.now }
-    requires setting { IsSetting F.value problem.now setting.now }
-{
-    let answer = WholeTableau::begin(told.alloc(), problem, setting);
-    match &answer {
-        Ok(tableau) => tell_from(told, tableau, lo, hi),
-        Err(obstacle) => told.put_debug(obstacle),
-    }
-    drop(answer);
-}
-
 /// The segment of the start between two quantiles, or what refuses it.
-pub(crate) fn tell_stay<F: Exact>(told: &mut Told, problem: &Problem<F>, asked: &str) {
-    let ends = numbers_in::<F>(told.alloc(), asked).unwrap_or(Vec::new(told.alloc()));
+pub(crate) fn tell_stay(told: &mut Told, problem: &Problem<Frac128>, asked: &str) {
+    let ends = numbers_of(told.alloc(), asked).unwrap_or(Vec::new(told.alloc()));
     let [lo, hi] = ends.as_slice() else {
         return told.put("no ends");
     };
     if !is_shaped(problem) {
         return told.put("no shape");
     }
-    let answer = setting_of(told.alloc(), problem);
-    match &answer {
-        Ok(setting) => tell_in_wholes(told, problem, setting, *lo, *hi),
-        Err(obstacle) => told.put_debug(obstacle),
-    }
-    drop(answer);
+    tell_in_wholes(told, problem, *lo, *hi);
 }
