@@ -116,8 +116,9 @@ pub(crate) fn tell(told: &mut Told, asked: &str) {
     let Some(halt) = halt_of(told.alloc(), asked) else {
         return told.put("no halt");
     };
-    let line = fault_line(told.alloc(), &Fault::Halt(&halt));
-    drop(halt);
+    let fault = Fault::Halt(halt);
+    let line = fault_line(told.alloc(), &fault);
+    drop(fault);
     match line {
         Ok(line) => told.put_bytes(line.as_slice()),
         Err(_) => told.put("no memory"),
