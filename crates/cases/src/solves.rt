@@ -1,7 +1,7 @@
 //! Solves at a quantile, walks over a range of them, and what stands at starts.
 //!
 //! A problem of 64 bits is asked in both widths: where it answers as in 128, it is told once; else its answer stands behind ` | `. Behind
-//! `wide` all is asked in 128 bits alone, and behind `narrow` in 64.
+//! `narrow` all is asked in 64 bits alone.
 
 use crate::losses::problem_of;
 use crate::numbers::{counts_of, numbers_in};
@@ -208,9 +208,6 @@ fn tell_both(told: &mut Told, problem: &Problem<Frac128>, narrow: &Problem<Frac6
 }
 
 fn tell_of(told: &mut Told, problem: &Problem<Frac128>, asked: &str) {
-    if let Some(asked) = asked.strip_prefix("wide ") {
-        return tell_in(told, problem, asked);
-    }
     if let Some(ends) = asked.strip_prefix("stay ") {
         return tell_stay(told, problem, ends);
     }
