@@ -14,7 +14,8 @@ returns-in_err-narrow_column-clause-fault c =
     let p = err_from_is_err_and c.from_residual-in_err-narrow_column.result c.from_residual-in_err-narrow_column.ensures.1 in
     rw (p.1, p.2) (elim c.in_err-narrow_column.ensures.fault [
       | inl memory ↦ inl memory
-      | inr fault ↦ inr (first_found (λ n. wide_fault n (column_of c.args.frame.now n)) (λ n. n.now) _ _ _ _ c.loop-name-test.true (get_or_default c.args.names.now c.loop-name.name-index _ _ c.loop-name-test.true) c.loop-name.invariant.sound
+      | inr fault ↦ inr (first_found (λ n. wide_fault n (column_of c.args.frame.now n)) (λ n. n.now) _ _ _ _ c.loop-name-test.true
+          (get_or_default c.args.names.now c.loop-name.name-index _ _ c.loop-name-test.true) c.loop-name.invariant.sound
           fault)
     ])
 
