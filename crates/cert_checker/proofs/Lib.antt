@@ -13,9 +13,9 @@ mod Rays
 mod Extracts
 pub mod Worths
 pub mod Shown
-mod Wholes
+pub mod Wholes
 mod Shared
 mod Later
 mod Ranks
-mod Held
+pub mod Held
 mod All

@@ -1,5 +1,5 @@
 mod Inputs
-mod Intercepts
+pub mod Intercepts
 mod Predicting
 pub mod Lists
 pub mod PlainInputs

@@ -1,6 +1,6 @@
 mod Values
 mod Distinct
-mod Overflowing
+pub mod Overflowing
 mod Lists
 mod Looked
 pub mod Variations

@@ -1,7 +1,7 @@
 -- A dual value more.
-use Rattle.std.proofs.Common.{rules, ◌≡◌, ◌+◌, ◌++◌, ◌∷◌, [], slice_index, ap, ◌∙◌}
+use Rattle.std.proofs.Common.{rules, ◌≡◌, ◌+◌, ◌++◌, ◌∷◌, [], slice_index, refl, ap, ◌∙◌}
 use Rattle.std.proofs.lemmas.List.{length_push}
-use Rattle.whole_rows.proofs.ValueLists.{value_pushed}
+use Rattle.basis_inverse.proofs.Lists.{value_more}
 use Rattle.rational_laws.specs.Fraction.{rational}
 use Rattle.loss_model.specs.Problem.{sample}
 use Rattle.pivot_model.specs.Duals.{dual}
@@ -18,6 +18,6 @@ loop-k-preserved g c =
     let before = c.loop-k.invariant in
     rw (grown) (record {
       size = length_push basic x ∙ ap (λ n. n + 1) before.size;
-      each = value_pushed value basic x c.loop-k.k (λ i. dual (sample value k.problem) (slice_index k.rows) (place value k).inverse (rational (value c.args.theta)) (slice_index c.args.sorted.now i))
+      each = value_more value basic _ x c.loop-k.k (λ i. dual (sample value k.problem) (slice_index k.rows) (place value k).inverse (rational (value c.args.theta)) (slice_index c.args.sorted.now i)) refl
           before.size before.each (c.in_ok-value.ensures {u = tt});
     })
