@@ -4,4 +4,5 @@ mod gates;
 mod helpers;
 mod hostile;
 mod streams;
+mod tables;
 mod weights;

@@ -1,14 +1,152 @@
-//! Walks over a range of quantiles on drawn problems, whose losses stand beside the least loss over all bases.
+//! Walks over a range of quantiles: a small one worked by hand, under each limit, and drawn ones, whose
+//! losses stand beside the least loss over all bases.
 
 use crate::bodies::{expect_no_start, expect_same};
-use crate::helpers::{Ratio, expect_dependent, make_problem, push, walk};
+use crate::helpers::{
+    Data, Path, Ratio, Reason, expect, expect_dependent, expect_stop, expect_trail, fraction,
+    make_problem, problem, push, walk,
+};
 use crate::least_loss::{Fit, Loss, OVER, Small, draw_problem, fit_at, has_least_loss};
-use frac_core::{Exact, Frac128};
-use loss_model::{Exchange, Process, Segment};
+use frac_core::{Exact, Frac64, Frac128};
+use loss_model::{Exchange, Problem, Process, Segment, Side};
 use std::alloc::Global;
 use std::num::Wrapping;
 use std::process::Abort;
 use test_kit::ratio;
+
+/// Three rows of an intercept and a slope: the responses 0, 2 and 3 at 0, 1 and 3.
+///
+/// At 0 the start takes the first two rows, whose line is above the third. The dual values are -2 and
+/// 3, and the slopes upwards 2 and -3: the second position leaves, and row 3 brings its slope to 0 and
+/// enters. The line through rows 1 and 3 has row 2 above it, whose dual value is t, so that theirs are
+/// -2/3 t and -1/3 t. They meet the bound t - 1 at 3/5 and at 3/4. At 3/5 the first position leaves
+/// downwards and row 2 enters. The line through rows 2 and 3 has row 1 below it, whose dual value is
+/// t - 1, so that theirs are 3/2 - 3/2 t and 1/2 t - 1/2: at 3/5 they are 3/5 and -1/5, and at 1
+/// they are 0. The first has just come from its bound t and meets none again; the second meets t - 1 at
+/// 1 alone.
+static THREE: [Data; 3] = [([1, 0, 0], 0, 1), ([1, 1, 0], 2, 1), ([1, 3, 0], 3, 1)];
+
+/// A segment: its ends, its coefficients, its sides, and the dual values and the loss at both ends.
+struct Stretch {
+    ends: &'static [Ratio],
+    coef: &'static [Ratio],
+    sides: &'static [Side],
+    basic_lo: &'static [Ratio],
+    basic_hi: &'static [Ratio],
+    loss: &'static [Ratio],
+}
+
+const FIRST: Stretch = Stretch {
+    ends: &[(0, 1), (3, 5)],
+    coef: &[(0, 1), (1, 1)],
+    sides: &[Side::Basic, Side::Up, Side::Basic],
+    basic_lo: &[(0, 1), (0, 1)],
+    basic_hi: &[(-2, 5), (-1, 5)],
+    loss: &[(0, 1), (3, 5)],
+};
+
+const SECOND: Stretch = Stretch {
+    ends: &[(3, 5), (1, 1)],
+    coef: &[(3, 2), (1, 2)],
+    sides: &[Side::Down, Side::Basic, Side::Basic],
+    basic_lo: &[(3, 5), (-1, 5)],
+    basic_hi: &[(0, 1), (0, 1)],
+    loss: &[(3, 5), (0, 1)],
+};
+
+/// The solve at the first quantile and no walk.
+const POINT: Stretch = Stretch {
+    ends: &[(0, 1), (0, 1)],
+    coef: &[(0, 1), (1, 1)],
+    sides: &[Side::Basic, Side::Up, Side::Basic],
+    basic_lo: &[(0, 1), (0, 1)],
+    basic_hi: &[(0, 1), (0, 1)],
+    loss: &[(0, 1), (0, 1)],
+};
+
+fn expect_segment<F: Exact>(rt: &impl Abort, segment: &Segment<F>, want: &Stretch) {
+    assert!(rt; [ratio(segment.lo), ratio(segment.hi)].as_slice() == want.ends);
+    expect(rt, &segment.vertex.coef, want.coef);
+    assert!(rt; segment.vertex.sides.as_slice() == want.sides);
+    expect(rt, &segment.basic_lo, want.basic_lo);
+    expect(rt, &segment.basic_hi, want.basic_hi);
+    assert!(rt; [ratio(segment.loss_lo), ratio(segment.loss_hi)].as_slice() == want.loss);
+}
+
+/// A walk from 0 under a limit, and what it comes to.
+struct Walk {
+    hi: Ratio,
+    limit: u32,
+    want: Want,
+}
+
+enum Want {
+    Walked(Path, &'static [Stretch]),
+    Stopped(Reason),
+}
+
+/// At 3/5 the walk from 0 goes on; a range of one quantile has one segment, of one point, and no step but that of the solve.
+static WALKS: [Walk; 4] = [
+    Walk {
+        hi: (1, 1),
+        limit: 0,
+        want: Want::Stopped(Reason::Limit((&[Some(0), Some(1)], &[]))),
+    },
+    Walk {
+        hi: (1, 1),
+        limit: 1,
+        want: Want::Stopped(Reason::Limit((&[Some(0), Some(1)], &[((0, 1), 1, 2)]))),
+    },
+    Walk {
+        hi: (1, 1),
+        limit: 2,
+        want: Want::Walked(
+            (&[Some(0), Some(1)], &[((0, 1), 1, 2), ((3, 5), 0, 1)]),
+            &[FIRST, SECOND],
+        ),
+    },
+    Walk {
+        hi: (0, 1),
+        limit: 1,
+        want: Want::Walked((&[Some(0), Some(1)], &[((0, 1), 1, 2)]), &[POINT]),
+    },
+];
+
+fn expect_process<F: Exact>(rt: &impl Abort, process: &Process<F>, want: &[Stretch]) {
+    let segments = process.segments.as_slice();
+    assert!(rt; segments.len() == want.len());
+    for (segment, stretch) in segments.iter().zip(want) {
+        expect_segment(rt, segment, stretch);
+    }
+}
+
+fn expect_walk<F: Exact>(rt: &impl Abort, alloc: Global, three: &Problem<F>, case: &Walk) {
+    let range = (F::zero(), fraction(rt, case.hi));
+    let answer = walk(rt, alloc, three, range, case.limit);
+    match (&answer, &case.want) {
+        (Ok(process), Want::Walked(path, segments)) => {
+            expect_trail(rt, &process.trail, *path);
+            expect_process(rt, process, segments);
+        }
+        (Err(stop), Want::Stopped(reason)) => expect_stop(rt, stop, reason),
+        _ => panic!(rt; "another answer"),
+    }
+    drop(answer);
+}
+
+fn expect_three<F: Exact>(rt: &impl Abort, alloc: Global) {
+    let three = problem::<F>(rt, alloc, 2, 1, THREE.as_slice());
+    for walk in &WALKS {
+        expect_walk(rt, alloc, &three, walk);
+    }
+    drop(three);
+}
+
+#[test]
+fn walks_of_three_rows(rt: HostRuntime) {
+    expect_three::<Frac64>(&rt, rt.alloc());
+    expect_three::<Frac128>(&rt, rt.alloc());
+}
 
 /// The loss of a fit at a quantile is the least over all bases.
 fn least_at(rt: &impl Abort, small: &mut Small, fit: &Fit, theta: Ratio) -> Loss {
