@@ -20,7 +20,8 @@ use ratio::Ratio;
 use std::alloc::Global;
 use test_kit::{are_data, is_shaped};
 
-fn tell_short<F: Exact>(told: &mut Told, short: &Short<F>) {
+/// An overflow, or that no memory was found.
+pub(crate) fn tell_short<F: Exact>(told: &mut Told, short: &Short<F>) {
     match short {
         Short::Overflow(spill) => told.put_spill(*spill),
         Short::OutOfMemory => told.put("no memory"),

@@ -1,8 +1,10 @@
-//! What the cases of a file ask of the lowest crates: fractions, numbers of any size, arithmetics, codings, generated tables, losses and
-//! predictions.
+//! What the cases of a file ask of the lowest crates: fractions, numbers of 128 bits and of any size, arithmetics, codings, generated
+//! tables, losses, predictions and projections.
 
 use crate::told::Told;
-use crate::{codings, evaluations, fractions, generated, losses, naturals, ratios, steps};
+use crate::{
+    codings, evaluations, fractions, generated, losses, naturals, projections, ratios, steps, wides,
+};
 
 /// What is asked.
 #[derive(Clone, Copy)]
@@ -19,6 +21,8 @@ pub(crate) enum Ground {
     Narrowed,
     Steps,
     Rearrangements,
+    Wides,
+    Projections,
 }
 
 /// The kind of the cases of a file, by its name without its ending.
@@ -36,6 +40,8 @@ pub(crate) fn ground_of(name: &str) -> Option<Ground> {
         "narrowed" => Ground::Narrowed,
         "steps" => Ground::Steps,
         "rearrangements" => Ground::Rearrangements,
+        "wides" => Ground::Wides,
+        "projections" => Ground::Projections,
         _ => return None,
     };
     Some(ground)
@@ -56,5 +62,7 @@ pub(crate) fn tell(told: &mut Told, ground: Ground, shared: &str, asked: &str) {
         Ground::Narrowed => losses::tell_narrowed(told, asked),
         Ground::Steps => steps::tell(told, asked),
         Ground::Rearrangements => steps::tell_ordered(told, asked),
+        Ground::Wides => wides::tell(told, asked),
+        Ground::Projections => projections::tell(told, asked),
     }
 }

@@ -4,8 +4,8 @@ use crate::derived::{Derived, derived_of};
 use crate::ground::{Ground, ground_of};
 use crate::told::Told;
 use crate::{
-    arithmetics, certificates, derived, designs, formulas, ground, predictions, readings, smooths,
-    sums, tables, verdicts, words,
+    arithmetics, certificates, derived, designs, fault_lines, formulas, ground, predictions,
+    readings, smooths, sums, tables, verdicts, words,
 };
 use std::thread::Threads;
 
@@ -31,6 +31,7 @@ pub(crate) enum Kind {
     Writings,
     Sums,
     Ranks,
+    FaultLines,
     Ground(Ground),
     Derived(Derived),
 }
@@ -66,6 +67,7 @@ pub(crate) fn kind_of(name: &str) -> Option<Kind> {
         "writings" => Kind::Writings,
         "sums" => Kind::Sums,
         "ranks" => Kind::Ranks,
+        "fault_lines" => Kind::FaultLines,
         _ => return lower_kind(name),
     };
     Some(kind)
@@ -99,6 +101,7 @@ pub(crate) fn tell<R: Threads + Sync>(
         Kind::Writings => certificates::tell_written(told, shared, asked),
         Kind::Sums => sums::tell(told, shared, asked),
         Kind::Ranks => sums::tell_interval(told, shared, asked),
+        Kind::FaultLines => fault_lines::tell(told, asked),
         Kind::Ground(ground) => ground::tell(told, ground, shared, asked),
         Kind::Derived(derived) => derived::tell(told, derived, shared, asked),
     }

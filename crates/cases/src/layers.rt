@@ -3,7 +3,7 @@
 //!
 //! A line of a file is a case, `> what is asked => what is wanted`; or what the cases below it share, `= a table or a certificate, say`;
 //! or a remark. In each text `\n`, `\r` and `\t` stand for those letters, `\\` for a backslash, and `\x` with two hexadecimal digits for
-//! a byte.
+//! a byte; `\(3 text\)` is a text so many times, in which `\#` is the number of each, from 1.
 
 use crate::kind::{Kind, tell};
 use crate::told::Told;

@@ -5,9 +5,9 @@
 //! compares what is printed, fails on a case that is wrong or missing, and a case more proves nothing anew.
 //!
 //! Cases of one layer are lines (`layers`); files whose names begin with `run_` have whole runs, which are blocks (`runs`). What each answer
-//! should be was worked out apart from the program. What a text can't hold (streams that fail, gates, want of memory, the largest inputs)
-//! stands in the tests of `edge_tests`. The crate stands on `rq_cli`; on `formula_arith`, `predict_steps` and `table_maker`; and on
-//! `lambda_path`, `nested_test` and `tau_process`.
+//! should be was worked out apart from the program. What a text can't hold (streams that fail, gates, want of memory) stands in the tests of
+//! `edge_tests`. The crate stands on `rq_cli`; on `formula_arith`, `predict_steps` and `table_maker`; and on `lambda_path`, `nested_test`,
+//! `tau_process` and `rank_inversion`.
 #![tactic(auto)]
 
 mod arithmetics;
@@ -16,11 +16,13 @@ mod codings;
 mod derived;
 mod designs;
 mod evaluations;
+mod fault_lines;
 mod formulas;
 mod fractions;
 mod generated;
 mod grams;
 mod ground;
+mod intervals;
 mod kind;
 mod layers;
 mod losses;
@@ -31,15 +33,20 @@ mod notation;
 mod numbers;
 mod paths;
 mod predictions;
+mod projections;
 mod ratios;
 mod readings;
 mod runs;
 mod smooths;
+mod solves;
+mod starts;
 mod steps;
 mod sums;
 mod tables;
 mod told;
+mod trails;
 mod verdicts;
+mod wides;
 mod words;
 
 use crate::kind::kind_of;

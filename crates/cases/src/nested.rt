@@ -6,6 +6,7 @@ ghost use Rattle.nested_test.specs.Restricted.{AreTested};
 
 use crate::grams::{are_independent, tell_ratios, widened};
 use crate::losses::tell_problem;
+use crate::numbers::counts_of;
 use crate::ratios::tell_ratio;
 use crate::told::Told;
 use frac_core::{Exact, Frac128};
@@ -38,16 +39,6 @@ fn are_tested(tested: &[u32], columns: u32) -> bool
     ensures { IsTrue result → AreTested columns tested.now }
 {
     is_ascending(tested) && are_columns(tested, columns)
-}
-
-fn columns_of(alloc: Global, text: &str) -> Option<Vec<u32>> {
-    let mut columns = Vec::new(alloc);
-    for word in text.split(' ') {
-        if !word.is_empty() {
-            columns.push(word.parse::<u32>().ok()?).ok()?;
-        }
-    }
-    Some(columns)
 }
 
 // What `nested` answers where its conditions are met.
@@ -94,7 +85,7 @@ fn tell_statistic<F: Exact>(
 /// Tells the scores of columns and their statistic, by the scores of the rows behind ` ; `.
 pub(crate) fn tell_nested<F: Exact>(told: &mut Told, full: &Problem<F>, asked: &str) {
     let (tested, wilcoxon) = asked.split_once(" ; ").unwrap_or((asked, ""));
-    let tested = columns_of(told.alloc(), tested);
+    let tested = counts_of(told.alloc(), tested);
     let wilcoxon = widened(told.alloc(), wilcoxon);
     match (&tested, &wilcoxon) {
         (Some(tested), Some(wilcoxon)) => {
@@ -124,7 +115,7 @@ fn tell_restricted(told: &mut Told, full: &Problem<Frac128>, tested: &[u32]) {
 
 /// Tells a problem without some of its columns.
 pub(crate) fn tell_without(told: &mut Told, full: &Problem<Frac128>, asked: &str) {
-    match columns_of(told.alloc(), asked) {
+    match counts_of(told.alloc(), asked) {
         Some(tested) => tell_restricted(told, full, tested.as_slice()),
         None => told.put("no number"),
     }

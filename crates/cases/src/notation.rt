@@ -36,9 +36,8 @@ fn put_escaped(bytes: &mut Vec<u8>, piece: &[u8]) -> Option<()> {
     }
 }
 
-/// The bytes that a text stands for, if its backslashes are followed by what may follow one. Between two backslashes is nothing where they
-/// stand for one.
-pub(crate) fn bytes_of(alloc: Global, text: &str) -> Option<Vec<u8>> {
+// The bytes of a text that repeats nothing. Between two backslashes is nothing where they stand for one.
+fn plain_bytes(alloc: Global, text: &str) -> Option<Vec<u8>> {
     let mut bytes = Vec::new(alloc);
     let mut is_plain = true;
     for piece in text.split('\\') {
@@ -51,6 +50,59 @@ pub(crate) fn bytes_of(alloc: Global, text: &str) -> Option<Vec<u8>> {
         } else {
             put_escaped(&mut bytes, piece.as_bytes())?;
         }
+    }
+    Some(bytes)
+}
+
+// Puts a piece so many times.
+fn put_copies(bytes: &mut Vec<u8>, piece: &[u8], times: u32) -> Option<()> {
+    for _ in 0..times {
+        bytes.extend_from_slice(piece).ok()?;
+    }
+    Some(())
+}
+
+// Puts the numbers from 1 on, each between two pieces.
+fn put_numbers(
+    alloc: Global,
+    bytes: &mut Vec<u8>,
+    before: &[u8],
+    after: &[u8],
+    times: u32,
+) -> Option<()> {
+    for time in 0..times {
+        let number = time.wrapping_add(1).to_string(alloc).ok()?;
+        bytes.extend_from_slice(before).ok()?;
+        bytes.extend_from_slice(number.as_bytes()).ok()?;
+        bytes.extend_from_slice(after).ok()?;
+    }
+    Some(())
+}
+
+// Puts what stands behind how often it is repeated.
+fn put_repeated(alloc: Global, bytes: &mut Vec<u8>, text: &str) -> Option<()> {
+    let (times, text) = text.split_once(' ')?;
+    let times = times.parse::<u32>().ok()?;
+    match text.split_once("\\#") {
+        Some((before, after)) => {
+            let before = plain_bytes(alloc, before)?;
+            let after = plain_bytes(alloc, after)?;
+            put_numbers(alloc, bytes, before.as_slice(), after.as_slice(), times)
+        }
+        None => put_copies(bytes, plain_bytes(alloc, text)?.as_slice(), times),
+    }
+}
+
+/// The bytes that a text stands for, if its backslashes are followed by what may follow one.
+pub(crate) fn bytes_of(alloc: Global, text: &str) -> Option<Vec<u8>> {
+    let mut parts = text.split("\\(");
+    let mut bytes = plain_bytes(alloc, parts.next()?)?;
+    for part in parts {
+        let (repeated, rest) = part.split_once("\\)")?;
+        put_repeated(alloc, &mut bytes, repeated)?;
+        bytes
+            .extend_from_slice(plain_bytes(alloc, rest)?.as_slice())
+            .ok()?;
     }
     Some(bytes)
 }

@@ -1,6 +1,6 @@
 //! Numbers as they are written in a case.
 
-use frac_core::{Frac128, read_number};
+use frac_core::{Exact, Frac128, read_number};
 use std::alloc::Global;
 
 /// The number of a text.
@@ -8,13 +8,39 @@ pub(crate) fn number_of(text: &str) -> Option<Frac128> {
     read_number::<Frac128>(text).ok()
 }
 
-/// The numbers of a text, with blanks between.
-pub(crate) fn numbers_of(alloc: Global, text: &str) -> Option<Vec<Frac128>> {
+/// The numbers of a text in one width, with blanks between.
+pub(crate) fn numbers_in<F: Exact>(alloc: Global, text: &str) -> Option<Vec<F>> {
     let mut values = Vec::new(alloc);
     for word in text.split(' ') {
         if !word.is_empty() {
-            values.push(number_of(word)?).ok()?;
+            values.push(read_number::<F>(word).ok()?).ok()?;
         }
     }
     Some(values)
+}
+
+pub(crate) fn numbers_of(alloc: Global, text: &str) -> Option<Vec<Frac128>> {
+    numbers_in::<Frac128>(alloc, text)
+}
+
+/// Whole numbers with a sign.
+pub(crate) fn wholes_of(alloc: Global, text: &str) -> Option<Vec<i128>> {
+    let mut values = Vec::new(alloc);
+    for word in text.split(' ') {
+        if !word.is_empty() {
+            values.push(word.parse::<i128>().ok()?).ok()?;
+        }
+    }
+    Some(values)
+}
+
+/// Columns, rows or limits.
+pub(crate) fn counts_of(alloc: Global, text: &str) -> Option<Vec<u32>> {
+    let mut counts = Vec::new(alloc);
+    for word in text.split(' ') {
+        if !word.is_empty() {
+            counts.push(word.parse::<u32>().ok()?).ok()?;
+        }
+    }
+    Some(counts)
 }

@@ -3,17 +3,15 @@
 //! Of the rows behind `=` are asked the first column that is penalised, the quantile, and for a process the range of lambda; behind ` at `
 //! lambdas, at which the loss of the segment there is told.
 
-ghost use Rattle.std.specs.Prelude.{◌≤◌};
-
 use crate::losses::{problem_of, row_of, tell_loss, tell_problem};
 use crate::numbers::{number_of, numbers_of};
+use crate::solves::walked;
 use crate::told::Told;
 use frac_core::{Exact, Frac128, List};
 use lambda_path::{PathFault, path_problem};
-use loss_model::{Problem, Process, Segment, Stop};
+use loss_model::{Problem, Process, Segment};
 use std::alloc::Global;
-use tau_process::process;
-use test_kit::{has_costs, is_ordered, is_shaped};
+use test_kit::is_shaped;
 
 // What `path_problem` answers where its conditions are met.
 fn path_of(
@@ -29,28 +27,6 @@ fn path_of(
         return None;
     }
     Some(path_problem(alloc, rows, first, tau))
-}
-
-// What `process` answers where its conditions are met.
-fn walked(
-    alloc: Global,
-    path: &Problem<Frac128>,
-    lo: Frac128,
-    hi: Frac128,
-) -> Option<Result<Process<Frac128>, Stop<Frac128>>> {
-    if !is_shaped(path) {
-        return None;
-    }
-    if !is_ordered(lo, hi) {
-        return None;
-    }
-    if !has_costs(path, lo) {
-        return None;
-    }
-    if !has_costs(path, hi) {
-        return None;
-    }
-    Some(process(alloc, path, lo, hi, 100))
 }
 
 fn tell_fault(told: &mut Told, fault: &PathFault) {
@@ -115,7 +91,7 @@ fn tell_walk(
     hi: Frac128,
     lambdas: &[Frac128],
 ) {
-    let answer = walked(told.alloc(), path, lo, hi);
+    let answer = walked(told.alloc(), path, (lo, hi), 100);
     match &answer {
         Some(Ok(process)) => tell_process(told, path, process, lambdas),
         Some(Err(_)) => told.put("stopped"),

@@ -11,8 +11,8 @@
 //!
 //! and what is wanted is the printed report; or the end of one, behind a line `..`; or the exit status and the line of a fault. Words
 //! behind ` => ` are those of a second run, which reads what the first has printed. A line with ` => ` between two texts, in place of a
-//! table, is the text above the first case of the file, in which the second comes where the first stands, or the second alone where nothing
-//! stands to the left: so a certificate stands once, and a reader sees what was changed in it.
+//! table, is the text above the first case of the file, in which the second comes where the first stands: so a certificate stands once, and a
+//! reader sees what was changed in it. Where nothing stands to the left it is the second alone, in the notation of the cases of a layer.
 
 mod case;
 mod running;

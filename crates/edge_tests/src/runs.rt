@@ -4,5 +4,4 @@ mod gates;
 mod helpers;
 mod hostile;
 mod streams;
-mod tables;
 mod weights;

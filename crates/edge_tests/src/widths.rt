@@ -1,10 +1,8 @@
-//! Answers of 64 bits in 128.
+//! A process of 64 bits in 128. Intervals and stops are told in both by `cases`.
 
 use crate::helpers::{Pair, fraction, list, push};
 use frac_core::{Exact, Frac64, Frac128, List};
-use loss_model::{
-    Basis, Exchange, Process, Segment, Side, Stop, Trail, Vertex, widen_process, widen_stop,
-};
+use loss_model::{Basis, Exchange, Process, Segment, Side, Trail, Vertex, widen_process};
 use std::alloc::Global;
 use std::process::Abort;
 use test_kit::ratio;
@@ -43,22 +41,6 @@ fn is_trail(trail: &Trail<Frac128>) -> bool {
         && trail.start.as_slice() == [Some(7)].as_slice()
         && trail.rise.as_slice().is_empty()
         && trail.fall.as_slice().is_empty()
-}
-
-#[test]
-fn stops_in_128_bits(rt: HostRuntime) {
-    let alloc = rt.alloc();
-    let stop = Stop::PivotLimit {
-        limit: 1,
-        trail: trail(&rt, alloc),
-    };
-    let wide = widen_stop(alloc, &stop).ok().expect(&rt, "memory");
-    match &wide {
-        Stop::PivotLimit { limit, trail } => assert!(rt; *limit == 1 && is_trail(trail)),
-        _ => panic!(&rt; "a limit stays a limit"),
-    }
-    drop(wide);
-    drop(stop);
 }
 
 // A segment of one column.

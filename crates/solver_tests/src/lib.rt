@@ -1,13 +1,10 @@
-//! Tests of the solver: inverses of bases (`basis_inverse`), the order of ties (`lex_rule`), basic
-//! solutions (`basic_solution`), pivots at one quantile (`br_pivot`), walks over a range
-//! (`tau_process`), how many pivots these need (`pivot_laws`), rank intervals, and whole numbers.
+//! Tests of the solver: inverses of bases (`basis_inverse`), the order of ties (`lex_rule`), solves and walks over a range
+//! (`br_pivot`, `tau_process`) in both bodies, and rank intervals.
 //!
-//! Cases worked by hand stand beside drawn ones, which are compared with a plain computation that is
-//! no part of the program.
+//! Drawn problems are compared with a plain computation that is no part of the program. Solves, walks and starts that are worked by
+//! hand are cases of `cases`.
 #![tactic(auto)]
 
-#[cfg(test)]
-mod basic_solutions;
 #[cfg(test)]
 mod bodies;
 #[cfg(test)]
@@ -23,14 +20,8 @@ mod inverses;
 #[cfg(test)]
 mod least_loss;
 #[cfg(test)]
-mod limits;
-#[cfg(test)]
 mod near;
-#[cfg(test)]
-mod pivots;
 #[cfg(test)]
 mod ties;
 #[cfg(test)]
 mod walks;
-#[cfg(test)]
-mod wholes;

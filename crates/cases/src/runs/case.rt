@@ -9,7 +9,7 @@ pub(crate) enum Wanted<'a> {
 }
 
 /// What a run reads: lines with semicolons between them; or the text that the cases of a file share, in which another one stands
-/// between two pieces; or a text alone.
+/// between two pieces; or a text alone, in the notation of cases.
 #[derive(Clone, Copy)]
 pub(crate) enum Input<'a> {
     Lines(&'a str),

@@ -1,5 +1,6 @@
 //! A run of a case, and what it left.
 
+use crate::notation::bytes_of;
 use crate::runs::case::{Case, Input, Wanted};
 use port_io::{MemSink, SureSource};
 use rq_cli::run;
@@ -87,11 +88,11 @@ fn joined(alloc: Global, pieces: &[&str]) -> Option<Vec<u8>> {
     Some(bytes)
 }
 
-fn bytes_of(alloc: Global, input: Input<'_>) -> Option<Vec<u8>> {
+fn input_bytes(alloc: Global, input: Input<'_>) -> Option<Vec<u8>> {
     match input {
         Input::Lines(lines) => table_of(alloc, lines),
         Input::Changed { before, to, after } => joined(alloc, &[before, to, after, "\n"]),
-        Input::Whole(text) => joined(alloc, &[text]),
+        Input::Whole(text) => bytes_of(alloc, text),
     }
 }
 
@@ -130,7 +131,7 @@ fn run_words<R: Threads + Sync>(rt: &R, alloc: Global, line: &str, bytes: Vec<u8
 
 /// Runs a case, and on what it has printed the words of a second run, where it has those. None, where memory was wanting.
 pub(crate) fn run_case<R: Threads + Sync>(rt: &R, alloc: Global, case: &Case<'_>) -> Option<Left> {
-    let bytes = bytes_of(alloc, case.input)?;
+    let bytes = input_bytes(alloc, case.input)?;
     let left = run_words(rt, alloc, case.words, bytes)?;
     match case.next {
         Some(words) => run_words(rt, alloc, words, left.printed),

@@ -1,9 +1,8 @@
-//! A table that is cut after each of its bytes, and one whose reading or printing fails at each call.
-//! The answers were worked out by hand from the rules.
+//! A table whose reading or printing fails at each call. The answers were worked out by hand from the rules.
 
 use crate::helpers::copied;
 use crate::runs::helpers::{
-    Left, Outputs, SOUND, assert_printed, assert_refused, expect_left, ran, ran_on,
+    Left, Outputs, SOUND, assert_printed, assert_refused, expect_left, ran,
 };
 use port_io::{MemSource, SureSource};
 use std::alloc::Global;
@@ -17,55 +16,6 @@ const WHOLE: &str = "process|--formula|y ~ x|--lo|0|--hi|1";
 
 static WHOLE_REPORT: &str =
     "quantreg 1\nrecords 3 dropped 0\ncolumn 1 (Intercept)\ncolumn 2 x\ndata 3 penalty 0\npivots 2\nsegment 1 0 3/5\ncoef 1 0\ncoef 2 1\nloss 0 3/5\nscores *1*\nbasic 1 1 0\nbasic 3 1 1/5\nsegment 2 3/5 1\ncoef 1 3/2\ncoef 2 1/2\nloss 3/5 0\nscores 0**\nbasic 2 1 0\nbasic 3 1/5 0\nend\n";
-
-// The line through two points: with as many columns as records each score is 1 - tau.
-static TWO_POINTS: &str =
-    "quantreg 1\nrecords 2 dropped 0\ncolumn 1 (Intercept)\ncolumn 2 x\ndata 2 penalty 0\npivots 0\nsegment 1 0 1\ncoef 1 0\ncoef 2 2\nloss 0 0\nscores **\nbasic 1 1 0\nbasic 2 1 0\nend\n";
-
-// The same beside a record that misses its x.
-static TWO_OF_THREE: &str =
-    "quantreg 1\nrecords 2 dropped 1\ncolumn 1 (Intercept)\ncolumn 2 x\ndata 2 penalty 0\npivots 0\nsegment 1 0 1\ncoef 1 0\ncoef 2 2\nloss 0 0\nscores **\nbasic 1 1 0\nbasic 2 1 0\nend\n";
-
-// For each count of bytes that are left, the fault line, or none where a report is printed.
-static CUTS: [&str; 17] = [
-    "quantreg: table: NoHeader\n",
-    "quantreg: formula: UnknownName offset=4\n",
-    "quantreg: table: EmptyName column=2\n",
-    "quantreg: design: NoRows\n",
-    "quantreg: design: NoRows\n",
-    "quantreg: table: Ragged record=1 found=1 wanted=2\n",
-    "quantreg: design: NoRows\n",
-    "quantreg: solver: Dependent combination=0,1\n",
-    "quantreg: solver: Dependent combination=0,1\n",
-    "quantreg: table: Ragged record=2 found=1 wanted=2\n",
-    "quantreg: solver: Dependent combination=0,1\n",
-    "",
-    "",
-    "quantreg: table: Ragged record=3 found=1 wanted=2\n",
-    "",
-    "",
-    "",
-];
-
-fn cut_report(left: usize) -> &'static str {
-    match left {
-        14 => TWO_OF_THREE,
-        15 | 16 => WHOLE_REPORT,
-        _ => TWO_POINTS,
-    }
-}
-
-#[test]
-fn a_cut_table_is_read_as_far_as_it_goes(rt: HostRuntime) {
-    for (bytes, told) in CUTS.iter().enumerate() {
-        let left = ran_on(&rt, rt.alloc(), WHOLE, &LINE.as_bytes()[..bytes]);
-        if told.is_empty() {
-            assert_printed(&rt, &left, cut_report(bytes));
-        } else {
-            assert_refused(&rt, &left, 1, told);
-        }
-    }
-}
 
 // The run of the whole table over a source that takes so many bytes a read, and whose read of this number fails.
 fn ran_in_pieces<R: Abort + Threads + Sync>(

@@ -5,7 +5,6 @@
 //! polytope of the restricted problem, and the ends from the least losses of the fits that keep the tested
 //! coefficient.
 
-use crate::intervals::worked::{FIVE, LINE};
 use loss_model::Bound;
 use slow_ranks::{
     CRITICAL, Data, Ends, Parts, QUANTILES, RankTest, Ratio, Vertex, after, before, draw,
@@ -15,50 +14,31 @@ use std::alloc::Global;
 use std::num::Wrapping;
 use std::process::Abort;
 
-/// An interval that was worked by hand: of a column, at the median, with a critical value. `None` is an
-/// infinite end.
-struct Case {
-    column: usize,
-    crit: Parts,
-    low: Option<Parts>,
-    high: Option<Parts>,
-}
+/// An interval that was worked by hand: the column and the critical value at the median, and the ends. `None` is an infinite end.
+type Case = (usize, Parts, Option<Parts>, Option<Parts>);
 
-/// Of the five responses, whose squared length is 5. Up to a tested value of 1 all five dual values
-/// are 1/2, and their sum is 5/2. It falls by 1 at each response, to 3/2 between 1 and 2, to 1/2 between
-/// 2 and 3, and so on to -5/2; at a response it has all values between. The bound of its square is
-/// crit * 1/4 * 5.
+/// Five responses, whose squared length is 5. Up to a tested value of 1 all five dual values are 1/2, and their sum is 5/2. It falls by 1 at
+/// each response, to 3/2 between 1 and 2, to 1/2 between 2 and 3, and so on to -5/2; at a response it has all values between. The bound of
+/// its square is crit * 1/4 * 5.
 ///
-/// With 1 the bound is 5/4: 1/4 is within it, and 9/4 is not. With 9/5 it is 9/4, a tie. With 5 it is
-/// 25/4, a tie with the greatest square that there is. With 0 the sum must be 0, as it can be at 3 alone.
-static OF_FIVE: [Case; 4] = [
-    Case {
-        column: 0,
-        crit: [1, 1],
-        low: Some([2, 1]),
-        high: Some([4, 1]),
-    },
-    Case {
-        column: 0,
-        crit: [9, 5],
-        low: Some([1, 1]),
-        high: Some([5, 1]),
-    },
-    Case {
-        column: 0,
-        crit: [5, 1],
-        low: None,
-        high: None,
-    },
-    Case {
-        column: 0,
-        crit: [0, 1],
-        low: Some([3, 1]),
-        high: Some([3, 1]),
-    },
+/// With 1 the bound is 5/4: 1/4 is within it, and 9/4 is not. With 9/5 it is 9/4, a tie. With 5 it is 25/4, a tie with the greatest square
+/// that there is. With 0 the sum must be 0, as it can be at 3 alone.
+static FIVE: [Data; 5] = [
+    ([1, 0, 0], 1, 1),
+    ([1, 0, 0], 2, 1),
+    ([1, 0, 0], 3, 1),
+    ([1, 0, 0], 4, 1),
+    ([1, 0, 0], 5, 1),
 ];
 
-/// Of the intercept, beside x: the ones less 2/5 of x leave 1, 3/5 and -1/5, of squared length 7/5, so
+static OF_FIVE: [Case; 4] = [
+    (0, [1, 1], Some([2, 1]), Some([4, 1])),
+    (0, [9, 5], Some([1, 1]), Some([5, 1])),
+    (0, [5, 1], None, None),
+    (0, [0, 1], Some([3, 1]), Some([3, 1])),
+];
+
+/// A line through three points. Of the intercept, beside x: the ones less 2/5 of x leave 1, 3/5 and -1/5, of squared length 7/5, so
 /// the bound is 6/7 * 1/4 * 7/5 = 3/10. Dual values balance x: e2 + 3 e3 = 0. The third row, of the
 /// greater x, is fitted, with the slope (3 - xi)/3, and the second one lies above it where 2 - xi is more,
 /// so where xi < 3/2: then e2 = 1/2 and e3 = -1/6, else e2 = -1/2 and e3 = 1/6. Of the first row -xi is
@@ -70,19 +50,11 @@ static OF_FIVE: [Case; 4] = [
 /// and below it have 1/2 and -1/2. Up to 1/2 the order of 0, 2 - xi, 3 - 3 xi is that of the rows, and the
 /// sum e2 + 3 e3 is 3/2, beyond. Between 1/2 and 1 the third row is in the middle, and it is 1/2; between
 /// 1 and 2 the first row is, and it is -1; above 2 the second is, and it is -3/2.
+static LINE: [Data; 3] = [([1, 0, 0], 0, 1), ([1, 1, 0], 2, 1), ([1, 3, 0], 3, 1)];
+
 static OF_LINE: [Case; 2] = [
-    Case {
-        column: 0,
-        crit: [6, 7],
-        low: Some([0, 1]),
-        high: Some([3, 2]),
-    },
-    Case {
-        column: 1,
-        crit: [6, 7],
-        low: Some([1, 2]),
-        high: Some([2, 1]),
-    },
+    (0, [6, 7], Some([0, 1]), Some([3, 2])),
+    (1, [6, 7], Some([1, 2]), Some([2, 1])),
 ];
 
 /// Ends of the first interval that are wrong: one too far out, or in, or none.
@@ -176,10 +148,11 @@ fn test_of(
 /// The interval that was worked by hand has the ends that the least losses give, and holds what the dual
 /// vertices say.
 fn expect(rt: &impl Abort, alloc: Global, table: (usize, &[Data]), case: &Case) {
-    let found = test_of(rt, alloc, table, case.column, ([1, 2], fraction(case.crit)));
+    let (column, crit, low, high) = *case;
+    let found = test_of(rt, alloc, table, column, ([1, 2], fraction(crit)));
     let want = Ends {
-        low: bound(case.low),
-        high: bound(case.high),
+        low: bound(low),
+        high: bound(high),
     };
     let ends = found.ends();
     assert!(rt; are_same(ends.low, want.low) && are_same(ends.high, want.high));

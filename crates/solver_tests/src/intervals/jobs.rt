@@ -58,7 +58,7 @@ fn end(bound: Bound<Frac128>) -> Option<Ratio> {
     }
 }
 
-/// The line of `worked`, whose two intervals stand there with how they come about.
+/// A line through three points. How its two intervals come about stands in `intervals.txt` of `cases`.
 static LINE: [Data; 3] = [([1, 0, 0], 0, 1), ([1, 1, 0], 2, 1), ([1, 3, 0], 3, 1)];
 
 static ENDS: [(Ratio, Ratio); 2] = [((0, 1), (3, 2)), ((1, 2), (2, 1))];

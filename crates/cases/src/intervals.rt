@@ -1,0 +1,285 @@
+//! Rank intervals, tests of columns, and what each stops for.
+//!
+//! A problem of 64 bits is asked in both widths, and an interval in 64 bits is told in 128 once more: where the answers are the same, it is
+//! told once; else the others stand behind ` | `. Behind `wide` all is asked in 128 bits alone, and behind `narrow` in 64.
+
+ghost use Rattle.std.specs.Prelude.{◌≡◌, ◌<◌, IfSome, length};
+ghost use Rattle.rank_inversion.specs.GramStops.{IsInverted};
+
+use crate::losses::problem_of;
+use crate::told::Told;
+use crate::trails::{tell_rows, tell_stop, tell_trail, tell_vertex};
+use basis_inverse::{Inverse, start};
+use frac_core::{Exact, Frac64, Frac128, read_number};
+use loss_model::{
+    Beyond, Bound, End, Interval, Problem, Stop, narrow_problem, widen_interval, widen_stop,
+};
+use rank_inversion::{
+    Asked, GramInverse, RankTest, gram_inverse, interval, interval_by_parts, interval_in_wholes,
+    rank_test,
+};
+use std::alloc::Global;
+use test_kit::{are_data, is_less, is_ordered, is_shaped};
+
+// ---- what is told
+
+fn tell_bound<F: Exact>(told: &mut Told, bound: Bound<F>) {
+    match bound {
+        Bound::Finite(value) => told.put_fraction(value),
+        Bound::Infinite => told.put("none"),
+    }
+}
+
+fn tell_end<F: Exact>(told: &mut Told, end: &End<F>) {
+    told.put("; ");
+    tell_bound(told, end.bound);
+    told.put(" ");
+    tell_vertex(told, &end.vertex);
+    told.put(" inside ");
+    told.put_fractions(end.inside.as_slice());
+    let (name, values) = match &end.beyond {
+        Beyond::Outside(outside) => (" outside ", outside),
+        Beyond::Ray(ray) => (" ray ", ray),
+    };
+    told.put(name);
+    told.put_fractions(values.as_slice());
+}
+
+fn tell_interval<F: Exact>(told: &mut Told, found: &Interval<F>) {
+    told.put_named("", found.column);
+    told.put(" ");
+    told.put_fraction(found.tau);
+    told.put(" ");
+    told.put_fraction(found.crit);
+    told.put("; ");
+    match &found.projection {
+        Some(factors) => told.put_fractions(factors.as_slice()),
+        None => told.put("none"),
+    }
+    told.put("; ");
+    tell_trail(told, &found.trail);
+    tell_end(told, &found.low);
+    tell_end(told, &found.high);
+}
+
+// The value of an end, and the rows of its vertex.
+fn tell_place<F: Exact>(told: &mut Told, end: &End<F>) {
+    tell_bound(told, end.bound);
+    told.put(" by");
+    tell_rows(told, end.vertex.basis.rows.as_slice());
+}
+
+// An interval as a word asks for it.
+fn tell_found<F: Exact>(told: &mut Told, word: &str, found: &Interval<F>) {
+    match word {
+        "interval" => tell_interval(told, found),
+        _ => {
+            tell_place(told, &found.low);
+            told.put("; ");
+            tell_place(told, &found.high);
+        }
+    }
+}
+
+// ---- intervals
+
+type Answer<F> = Option<Result<Interval<F>, Stop<F>>>;
+
+fn tell_answer<F: Exact>(told: &mut Told, word: &str, answer: &Answer<F>) {
+    match answer {
+        Some(Ok(found)) => tell_found(told, word, found),
+        Some(Err(stop)) => tell_stop(told, stop),
+        None => told.put("none"),
+    }
+}
+
+// A column, a quantile and a critical value, and the limit of pivots.
+fn asked_in<F: Exact>(text: &str) -> Option<(Asked<F>, u32)> {
+    let mut words = text.split(' ');
+    let asked = Asked {
+        column: words.next()?.parse::<u32>().ok()?,
+        tau: read_number::<F>(words.next()?).ok()?,
+        crit: read_number::<F>(words.next()?).ok()?,
+    };
+    let limit = words.next().unwrap_or("0").parse::<u32>().ok()?;
+    Some((asked, limit))
+}
+
+// What is answered where its conditions are met: by parts, whose walks go in fractions, in whole numbers alone, or by the first that can.
+fn answer_to<F: Exact>(alloc: Global, problem: &Problem<F>, word: &str, text: &str) -> Answer<F> {
+    let (asked, limit) = asked_in(text)?;
+    if !is_shaped(problem) {
+        return None;
+    }
+    if asked.column >= problem.columns {
+        return None;
+    }
+    if !is_less(F::zero(), asked.tau) {
+        return None;
+    }
+    if !is_less(asked.tau, F::one()) {
+        return None;
+    }
+    if !is_ordered(F::zero(), asked.crit) {
+        return None;
+    }
+    if !are_data(problem) {
+        return None;
+    }
+    match word {
+        "parts" => Some(interval_by_parts(alloc, problem, asked, limit)),
+        "wholes" => Some(Ok(interval_in_wholes(alloc, problem, asked, limit)?)),
+        _ => {
+            let Asked { column, tau, crit } = asked;
+            Some(interval(alloc, problem, column, tau, crit, limit))
+        }
+    }
+}
+
+fn tell_asked<F: Exact>(told: &mut Told, problem: &Problem<F>, word: &str, text: &str) {
+    let answer = answer_to(told.alloc(), problem, word, text);
+    tell_answer(told, word, &answer);
+    drop(answer);
+}
+
+// The same in 128 bits.
+fn widened(alloc: Global, answer: &Answer<Frac64>) -> Answer<Frac128> {
+    match answer.as_ref()? {
+        Ok(found) => Some(Ok(widen_interval(alloc, found).ok()?)),
+        Err(stop) => Some(Err(widen_stop(alloc, stop).ok()?)),
+    }
+}
+
+// The interval in 64 bits, told in 128.
+fn tell_widened(told: &mut Told, problem: &Problem<Frac64>, text: &str) {
+    let answer = answer_to(told.alloc(), problem, "interval", text);
+    let wide = widened(told.alloc(), &answer);
+    drop(answer);
+    tell_answer(told, "interval", &wide);
+    drop(wide);
+}
+
+// ---- the inverse of the Gram matrix, and the test of a column
+
+fn gram_of<F: Exact>(alloc: Global, problem: &Problem<F>) -> Option<GramInverse<F>>
+    ensures { IfSome result (IsInverted F.value problem.now) }
+{
+    if !is_shaped(problem) {
+        return None;
+    }
+    if !are_data(problem) {
+        return None;
+    }
+    gram_inverse(alloc, problem).ok()
+}
+
+fn tell_column<F: Exact>(told: &mut Told, inverse: &Inverse<F>, columns: u32, column: u32)
+    requires square { length inverse.now.columns ≡ columns }
+    requires column { column < columns }
+{
+    told.put(";");
+    for position in 0..columns {
+        told.put(" ");
+        told.put_fraction(inverse.entry(column, position));
+    }
+}
+
+fn tell_gram<F: Exact>(told: &mut Told, problem: &Problem<F>) {
+    let Some(gram) = gram_of(told.alloc(), problem) else {
+        return told.put("no inverse");
+    };
+    told.put("rows");
+    tell_rows(told, gram.basis.rows.as_slice());
+    for column in 0..problem.columns {
+        tell_column(told, &gram.inverse, problem.columns, column);
+    }
+    drop(gram);
+}
+
+fn test_of<F: Exact>(alloc: Global, problem: &Problem<F>, text: &str) -> Option<RankTest<F>> {
+    let (asked, _) = asked_in(text)?;
+    if asked.column >= problem.columns {
+        return None;
+    }
+    let gram = gram_of(alloc, problem)?;
+    rank_test(alloc, problem, &gram, asked).ok()
+}
+
+fn tell_test<F: Exact>(told: &mut Told, problem: &Problem<F>, text: &str) {
+    match test_of(told.alloc(), problem, text) {
+        Some(test) => {
+            told.put_fractions(test.factors.as_slice());
+            told.put("; ");
+            told.put_fraction(test.bound);
+        }
+        None => told.put("no test"),
+    }
+}
+
+// Whether the greedy start overflows.
+fn tell_begun<F: Exact>(told: &mut Told, problem: &Problem<F>) {
+    if !is_shaped(problem) {
+        return told.put("no shape");
+    }
+    let answer = start(told.alloc(), problem);
+    told.put(match &answer {
+        Ok(_) => "started",
+        Err(Stop::Overflow { .. }) => "overflow",
+        Err(_) => "stopped",
+    });
+    drop(answer);
+}
+
+// ---- both widths
+
+fn tell_in<F: Exact>(told: &mut Told, problem: &Problem<F>, asked: &str) {
+    let (word, text) = asked.split_once(' ').unwrap_or((asked, ""));
+    match word {
+        "start" => tell_begun(told, problem),
+        "gram" => tell_gram(told, problem),
+        "test" => tell_test(told, problem, text),
+        _ => tell_asked(told, problem, word, text),
+    }
+}
+
+// What is answered in both widths, or in 64 bits alone.
+fn tell_both(told: &mut Told, problem: &Problem<Frac128>, narrow: &Problem<Frac64>, asked: &str) {
+    if let Some(asked) = asked.strip_prefix("narrow ") {
+        return tell_in(told, narrow, asked);
+    }
+    tell_in(told, problem, asked);
+    let mut other = Told::new(told.alloc());
+    tell_in(&mut other, narrow, asked);
+    told.put_other(&other);
+    if let Some(text) = asked.strip_prefix("interval ") {
+        let mut other = Told::new(told.alloc());
+        tell_widened(&mut other, narrow, text);
+        told.put_other(&other);
+    }
+}
+
+fn tell_of(told: &mut Told, problem: &Problem<Frac128>, asked: &str) {
+    if let Some(asked) = asked.strip_prefix("wide ") {
+        return tell_in(told, problem, asked);
+    }
+    if !is_shaped(problem) {
+        return told.put("no shape");
+    }
+    let narrow = narrow_problem(told.alloc(), problem);
+    match &narrow {
+        Ok(Some(narrow)) => tell_both(told, problem, narrow, asked),
+        _ => tell_in(told, problem, asked),
+    }
+    drop(narrow);
+}
+
+/// Tells what is asked of a problem.
+pub(crate) fn tell(told: &mut Told, shared: &str, asked: &str) {
+    match problem_of(told.alloc(), shared) {
+        Some(problem) => {
+            tell_of(told, &problem, asked);
+            drop(problem);
+        }
+        None => told.put("no problem"),
+    }
+}

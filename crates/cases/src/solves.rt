@@ -1,0 +1,234 @@
+//! Solves at a quantile, walks over a range of them, and what stands at starts.
+//!
+//! A problem of 64 bits is asked in both widths: where it answers as in 128, it is told once; else its answer stands behind ` | `. Behind
+//! `narrow` all is asked in 64 bits alone.
+
+use crate::losses::problem_of;
+use crate::numbers::{counts_of, numbers_in};
+use crate::starts::{tell_begun, tell_exchanged, tell_standing, tell_stay};
+use crate::told::Told;
+use crate::trails::{tell_rows, tell_stop, tell_trail, tell_vertex};
+use br_pivot::{Solved, solve_at};
+use frac_core::{Exact, Frac64, Frac128};
+use loss_model::{Problem, Process, Segment, Stop, Trail, narrow_problem};
+use std::alloc::Global;
+use tau_process::process;
+use test_kit::{has_costs, is_ordered, is_shaped};
+
+/// What `solve_at` answers where its conditions are met.
+fn solved<F: Exact>(
+    alloc: Global,
+    problem: &Problem<F>,
+    theta: F,
+    limit: u32,
+) -> Option<Result<Solved<F>, Stop<F>>> {
+    if !is_shaped(problem) {
+        return None;
+    }
+    if !has_costs(problem, theta) {
+        return None;
+    }
+    Some(solve_at(alloc, problem, theta, limit))
+}
+
+/// What `process` answers where its conditions are met.
+pub(crate) fn walked<F: Exact>(
+    alloc: Global,
+    problem: &Problem<F>,
+    (lo, hi): (F, F),
+    limit: u32,
+) -> Option<Result<Process<F>, Stop<F>>> {
+    if !is_shaped(problem) {
+        return None;
+    }
+    if !is_ordered(lo, hi) {
+        return None;
+    }
+    if !has_costs(problem, lo) {
+        return None;
+    }
+    if !has_costs(problem, hi) {
+        return None;
+    }
+    Some(process(alloc, problem, lo, hi, limit))
+}
+
+// ---- answers
+
+fn tell_count<F: Exact>(told: &mut Told, trail: &Trail<F>) {
+    told.put_count(trail.steps.as_slice().len());
+}
+
+// How it is reached, its basis by position, its vertex, and the dual values of the basic rows; or how many pivots it took.
+fn tell_solved<F: Exact>(told: &mut Told, word: &str, solved: &Solved<F>) {
+    if word == "count" {
+        return tell_count(told, &solved.trail);
+    }
+    tell_trail(told, &solved.trail);
+    told.put("; basis");
+    tell_rows(told, solved.basis.rows.as_slice());
+    told.put("; ");
+    tell_vertex(told, &solved.vertex);
+    told.put("; ");
+    told.put_fractions(solved.basic.as_slice());
+}
+
+fn tell_both_ends<F: Exact>(told: &mut Told, lo: F, hi: F) {
+    told.put_fraction(lo);
+    told.put(" ");
+    told.put_fraction(hi);
+}
+
+/// The ends of a segment, its vertex, and the dual values of the basic rows and the loss at both ends.
+pub(crate) fn tell_segment<F: Exact>(told: &mut Told, segment: &Segment<F>) {
+    tell_both_ends(told, segment.lo, segment.hi);
+    told.put(" ");
+    tell_vertex(told, &segment.vertex);
+    told.put(" from ");
+    told.put_fractions(segment.basic_lo.as_slice());
+    told.put(" to ");
+    told.put_fractions(segment.basic_hi.as_slice());
+    told.put(" loss ");
+    tell_both_ends(told, segment.loss_lo, segment.loss_hi);
+}
+
+// How it is reached, and its segments; or how many pivots it took.
+fn tell_process<F: Exact>(told: &mut Told, word: &str, process: &Process<F>) {
+    if word == "count" {
+        return tell_count(told, &process.trail);
+    }
+    tell_trail(told, &process.trail);
+    for segment in process.segments.as_slice() {
+        told.put("; ");
+        tell_segment(told, segment);
+    }
+}
+
+// Why there is no answer; or how many pivots were made, and the limit.
+fn tell_halt<F: Exact>(told: &mut Told, word: &str, stop: &Stop<F>) {
+    match (word, stop) {
+        ("count", Stop::PivotLimit { limit, trail }) => {
+            tell_count(told, trail);
+            told.put_named(" of ", *limit);
+        }
+        _ => tell_stop(told, stop),
+    }
+}
+
+fn tell_solve<F: Exact>(told: &mut Told, problem: &Problem<F>, word: &str, theta: F, limit: u32) {
+    let answer = solved(told.alloc(), problem, theta, limit);
+    match &answer {
+        Some(Ok(solved)) => tell_solved(told, word, solved),
+        Some(Err(stop)) => tell_halt(told, word, stop),
+        None => told.put("none"),
+    }
+    drop(answer);
+}
+
+fn tell_walk<F: Exact>(
+    told: &mut Told,
+    problem: &Problem<F>,
+    word: &str,
+    range: (F, F),
+    limit: u32,
+) {
+    let answer = walked(told.alloc(), problem, range, limit);
+    match &answer {
+        Some(Ok(process)) => tell_process(told, word, process),
+        Some(Err(stop)) => tell_halt(told, word, stop),
+        None => told.put("none"),
+    }
+    drop(answer);
+}
+
+// ---- questions
+
+fn tell_under<F: Exact>(
+    told: &mut Told,
+    problem: &Problem<F>,
+    word: &str,
+    quantiles: &[F],
+    limit: u32,
+) {
+    match quantiles {
+        [theta] => tell_solve(told, problem, word, *theta, limit),
+        [lo, hi] => tell_walk(told, problem, word, (*lo, *hi), limit),
+        _ => told.put("no quantile"),
+    }
+}
+
+// The answers under some limits.
+fn tell_each<F: Exact>(
+    told: &mut Told,
+    problem: &Problem<F>,
+    word: &str,
+    quantiles: &[F],
+    limits: &[u32],
+) {
+    let mut mark = "";
+    for limit in limits {
+        told.put(mark);
+        tell_under(told, problem, word, quantiles, *limit);
+        mark = ", ";
+    }
+}
+
+fn tell_limited<F: Exact>(told: &mut Told, problem: &Problem<F>, word: &str, rest: &str) {
+    let (quantiles, limits) = rest.split_once(" limit ").unwrap_or((rest, ""));
+    let quantiles = numbers_in::<F>(told.alloc(), quantiles);
+    let limits = counts_of(told.alloc(), limits);
+    match (&quantiles, &limits) {
+        (Some(quantiles), Some(limits)) => {
+            tell_each(told, problem, word, quantiles.as_slice(), limits.as_slice());
+        }
+        _ => told.put("no number"),
+    }
+}
+
+fn tell_in<F: Exact>(told: &mut Told, problem: &Problem<F>, asked: &str) {
+    let (word, rest) = asked.split_once(' ').unwrap_or((asked, ""));
+    match word {
+        "start" => tell_begun(told, problem),
+        "exchange" => tell_exchanged(told, problem, rest),
+        "standing" => tell_standing(told, problem),
+        _ => tell_limited(told, problem, word, rest),
+    }
+}
+
+// ---- both widths
+
+fn tell_both(told: &mut Told, problem: &Problem<Frac128>, narrow: &Problem<Frac64>, asked: &str) {
+    if let Some(asked) = asked.strip_prefix("narrow ") {
+        return tell_in(told, narrow, asked);
+    }
+    tell_in(told, problem, asked);
+    let mut other = Told::new(told.alloc());
+    tell_in(&mut other, narrow, asked);
+    told.put_other(&other);
+}
+
+fn tell_of(told: &mut Told, problem: &Problem<Frac128>, asked: &str) {
+    if let Some(ends) = asked.strip_prefix("stay ") {
+        return tell_stay(told, problem, ends);
+    }
+    if !is_shaped(problem) {
+        return told.put("no shape");
+    }
+    let narrow = narrow_problem(told.alloc(), problem);
+    match &narrow {
+        Ok(Some(narrow)) => tell_both(told, problem, narrow, asked),
+        _ => tell_in(told, problem, asked),
+    }
+    drop(narrow);
+}
+
+/// Tells what is asked of a problem.
+pub(crate) fn tell(told: &mut Told, shared: &str, asked: &str) {
+    match problem_of(told.alloc(), shared) {
+        Some(problem) => {
+            tell_of(told, &problem, asked);
+            drop(problem);
+        }
+        None => told.put("no problem"),
+    }
+}
