@@ -18,7 +18,7 @@ use Rattle.rq_cli.specs.Steps.{outcome_of, WasTold, WasPrinted}
 use Rattle.report_text.specs.declared.report.Fault.{Fault}
 use Rattle.report_text.specs.declared.report.Fault.TheVariants as faults
 use Rattle.rq_cli.specs.declared.outcome.Outcome.{Outcome}
-use Rattle.rq_cli.specs.declared.outcome.Outcome.TheVariants.{Done, Refused, Usage, SourceFault, SinkFault, OutOfMemory, PivotLimit, Overflow, Rejected}
+use Rattle.rq_cli.specs.declared.outcome.Outcome.TheVariants.{Done, Refused, Usage, SourceFault, SinkFault, OutOfMemory}
 
 -- a write whose answer isn't looked at
 pub tried : {T E : Type 0} (r : Result T E) (before now : Stream) (line : List ℕ) → OnOk r (Appends before.bytes now.bytes line) → OnErr r (AppendsPart before.bytes now.bytes line) → CountsFaults before.faults now.faults r
@@ -29,10 +29,7 @@ tried (Err e) before now line ok err counted = inr (counted.rose, err)
 -- the line of a fault is that of the outcome
 pub told_line : (fault : Fault) → fault_line fault ≡ outcome_line (outcome_of fault)
 told_line (faults.Usage fault) = refl
-told_line faults.Source = refl
-told_line faults.Sink = refl
-told_line (faults.Halt (halts.Refused refusal)) = refl
-told_line (faults.Halt other) = refl
+told_line other = refl
 
 -- the engine never finds an input too long
 never_long : (job : Job) (bytes : List ℕ) → engine.HasCause job bytes (halts.Refused TooLong) → ⊥
@@ -89,24 +86,11 @@ module _ (words : List (List ℕ)) (source source' out out' err err' : Stream) w
   on_fault : (fault : Outcome) (P : Type 0) → P → OnFault fault P
   on_fault (Done _) P h = tt
   on_fault SinkFault P h = tt
-  on_fault (Refused _) P h = h
-  on_fault (Usage _) P h = h
-  on_fault SourceFault P h = h
-  on_fault OutOfMemory P h = h
-  on_fault (PivotLimit _ _ _) P h = h
-  on_fault (Overflow _ _ _) P h = h
-  on_fault (Rejected _) P h = h
+  on_fault other P h = h
 
   not_done : (fault : Outcome) (P : Report → Type 0) → IsFault words source source' fault → OnDone fault P
   not_done (Done report) P h = absurd h
-  not_done SinkFault P h = tt
-  not_done (Refused _) P h = tt
-  not_done (Usage _) P h = tt
-  not_done SourceFault P h = tt
-  not_done OutOfMemory P h = tt
-  not_done (PivotLimit _ _ _) P h = tt
-  not_done (Overflow _ _ _) P h = tt
-  not_done (Rejected _) P h = tt
+  not_done other P h = tt
 
   fault_cause : (fault : Outcome) → IsFault words source source' fault → HasCause words source source' out out' err err' fault
   fault_cause (Done _) h = absurd h

@@ -19,7 +19,8 @@ use Rattle.rq_cli.specs.declared.outcome.Outcome.TheVariants.{Done, Refused, Usa
 use Rattle.run_laws.specs.Certificates.{IsUndecided}
 use Rattle.run_laws.proofs.Checking.{one_report, undecided}
 use Rattle.run_laws.specs.Completeness.{NoneRose, IsPassing, IsAccepted}
-use Rattle.run_laws.proofs.Complete.{none_beyond, one_request, were_told}
+use Rattle.run_laws.proofs.Complete.{none_beyond, were_told}
+use Rattle.run_laws.proofs.Jobs.{one_request}
 
 -- words that ask for a check ask for no other job
 check_alone : (job : Job) → request_of job ≡ request_of jobs.Check → job ≡ jobs.Check
@@ -56,20 +57,7 @@ module _ (same : SameContent) (words : List (List ℕ)) (source source' : Stream
           (subst (λ b. IsRight jobs.Check b report) (same_bytes a.job a.bytes a.read)
           (subst (λ (job : Job). IsRight job a.bytes report) (is_check a.job a.read.asked) a.right))
       by (Refused refusals.TooLong) run = absurd (none_beyond source source' bytes w.told w.short run.cause.came)
-      by (Refused (refusals.Table fault)) run = absurd (not_refused (refusals.Table fault) run.cause)
-      by (Refused (refusals.Formula fault)) run = absurd (not_refused (refusals.Formula fault) run.cause)
-      by (Refused refusals.RankWithPenalty) run = absurd (not_refused refusals.RankWithPenalty run.cause)
-      by (Refused refusals.SmoothNotTaken) run = absurd (not_refused refusals.SmoothNotTaken run.cause)
-      by (Refused (refusals.Design fault)) run = absurd (not_refused (refusals.Design fault) run.cause)
-      by (Refused (refusals.Penalty fault)) run = absurd (not_refused (refusals.Penalty fault) run.cause)
-      by (Refused (refusals.Program fault)) run = absurd (not_refused (refusals.Program fault) run.cause)
-      by (Refused refusals.NothingToPredict) run = absurd (not_refused refusals.NothingToPredict run.cause)
-      by (Refused (refusals.NoSuchColumn number)) run = absurd (not_refused (refusals.NoSuchColumn number) run.cause)
-      by (Refused refusals.AllTested) run = absurd (not_refused refusals.AllTested run.cause)
-      by (Refused (refusals.TooManyPredictions found)) run = absurd (not_refused (refusals.TooManyPredictions found) run.cause)
-      by (Refused (refusals.CertTooLong n)) run = absurd (not_refused (refusals.CertTooLong n) run.cause)
-      by (Refused (refusals.Certificate fault)) run = absurd (not_refused (refusals.Certificate fault) run.cause)
-      by (Refused (refusals.Dependent combination)) run = absurd (not_refused (refusals.Dependent combination) run.cause)
+      by (Refused refusal) run = absurd (not_refused refusal run.cause)
       by (Usage fault) run = absurd (cc (sym run.cause ∙ w.asked))
       by SourceFault run = absurd (none.0 run.cause.1)
       by SinkFault run = failed run.cause

@@ -14,8 +14,6 @@ use Rattle.rq_words.specs.Requests.{request_of}
 use Rattle.rq_words.specs.declared.job.FitJob.{FitJob}
 use Rattle.rq_words.specs.declared.job.Job.{Job}
 use Rattle.rq_words.specs.declared.job.Job.TheVariants as jobs
-use Rattle.rq_words.specs.declared.job.PathJob.{PathJob}
-use Rattle.rq_words.specs.declared.job.TestJob.{TestJob}
 use Rattle.report_text.specs.declared.report.Place.{Place}
 use Rattle.report_text.specs.declared.report.Place.TheVariants as places
 use Rattle.report_text.specs.declared.report.Refusal.{Refusal}
@@ -40,71 +38,22 @@ use Rattle.run_laws.specs.Completeness.{NoneRose, IsWellFormed, IsAnswer, parts_
 use Rattle.run_laws.specs.NeededOutcomes.{IsFitJob, AskFit, WasInput, WasPosed, ReachesLimitAt, table_bytes}
 use Rattle.run_laws.proofs.AskedInputs.{asked_input}
 use Rattle.run_laws.proofs.Answering.{answered_with}
+use Rattle.run_laws.proofs.Jobs.{IsFitting, fitting, one_request, rejected_check}
 use Rattle.run_laws.proofs.Needed.{limit_needed}
 
 -- ---- words
 
--- words ask for one request
-module _ (words : List (List ℕ)) where
-  pub one_request : (job other : Job) → IsJobOf words job → IsJobOf words other → request_of job ≡ request_of other
-  one_request job other asked again = cc (sym asked ∙ again)
-
-  -- a job of these words reads the source where one does
-  also_reads : (job other : Job) → request_of job ≡ request_of other → Reads other → Reads job
-  also_reads (jobs.Process a) other same reads = tt
-  also_reads (jobs.Ranks a) other same reads = tt
-  also_reads (jobs.Certify a) other same reads = tt
-  also_reads jobs.Check other same reads = tt
-  also_reads (jobs.Predict a) other same reads = tt
-  also_reads (jobs.Test a) other same reads = tt
-  also_reads (jobs.Path a) other same reads = tt
-  also_reads (jobs.Sample a) (jobs.Process b) same reads = absurd (cc same)
-  also_reads (jobs.Sample a) (jobs.Ranks b) same reads = absurd (cc same)
-  also_reads (jobs.Sample a) (jobs.Certify b) same reads = absurd (cc same)
-  also_reads (jobs.Sample a) jobs.Check same reads = absurd (cc same)
-  also_reads (jobs.Sample a) (jobs.Predict b) same reads = absurd (cc same)
-  also_reads (jobs.Sample a) (jobs.Test b) same reads = absurd (cc same)
-  also_reads (jobs.Sample a) (jobs.Path b) same reads = absurd (cc same)
-  also_reads (jobs.Sample a) (jobs.Sample b) same reads = absurd reads
-
-  -- words that ask for a fit ask for no check
-  pub no_check : (job : Job) (fit : FitJob) (ranked : Bool) → IsFitJob job fit ranked → request_of jobs.Check ≡ request_of job → ⊥
-  no_check jobs.Check fit ranked is same = is
-  no_check (jobs.Test a) fit ranked is same = is
-  no_check (jobs.Path a) fit ranked is same = is
-  no_check other fit ranked is same = absurd (cc same)
-
-  -- nor for a path
-  pub no_path : (job : Job) (fit : FitJob) (ranked : Bool) → IsFitJob job fit ranked → (path : PathJob) → request_of (jobs.Path path) ≡ request_of job → ⊥
-  no_path jobs.Check fit ranked is path same = is
-  no_path (jobs.Test a) fit ranked is path same = is
-  no_path (jobs.Path a) fit ranked is path same = is
-  no_path other fit ranked is path same = absurd (cc same)
-
-  -- nor for a rank test
-  pub no_test : (job : Job) (fit : FitJob) (ranked : Bool) → IsFitJob job fit ranked → (test : TestJob) → request_of (jobs.Test test) ≡ request_of job → ⊥
-  no_test jobs.Check fit ranked is test same = is
-  no_test (jobs.Test a) fit ranked is test same = is
-  no_test (jobs.Path a) fit ranked is test same = is
-  no_test other fit ranked is test same = absurd (cc same)
+-- a job of words reads the source where another one of them does
+also_reads : (job other : Job) → request_of job ≡ request_of other → Reads other → Reads job
+also_reads (jobs.Sample a) (jobs.Sample b) same reads = absurd reads
+also_reads (jobs.Sample a) other same reads = absurd (cc same)
+also_reads job other same reads = tt
 
 -- a report that is right for bytes is right for others of the same table
 right_same : (job : Job) (report : Report) (a b : List ℕ) → table_bytes job a ≡ table_bytes job b → IsRight job a report → IsRight job b report
-right_same (jobs.Process fit) report a b same h = subst (λ x. IsRight (jobs.Process fit) x report) same h
-right_same (jobs.Ranks fit) report a b same h = subst (λ x. IsRight (jobs.Ranks fit) x report) same h
-right_same (jobs.Certify fit) report a b same h = subst (λ x. IsRight (jobs.Certify fit) x report) same h
-right_same jobs.Check report a b same h = subst (λ x. IsRight jobs.Check x report) same h
-right_same (jobs.Predict fit) report a b same h = subst (λ x. IsRight (jobs.Predict fit) x report) same h
-right_same (jobs.Test job) report a b same h = subst (λ x. IsRight (jobs.Test job) x report) same h
-right_same (jobs.Path job) report a b same h = subst (λ x. IsRight (jobs.Path job) x report) same h
-right_same (jobs.Sample job) (reports.Process f) a b same h = absurd h
-right_same (jobs.Sample job) (reports.Ranks f) a b same h = absurd h
-right_same (jobs.Sample job) (reports.Certificate c) a b same h = absurd h
-right_same (jobs.Sample job) (reports.Checked c) a b same h = absurd h
-right_same (jobs.Sample job) (reports.Predict f) a b same h = absurd h
-right_same (jobs.Sample job) (reports.Test f) a b same h = absurd h
-right_same (jobs.Sample job) (reports.Path f) a b same h = absurd h
 right_same (jobs.Sample job) (reports.Sample f) a b same h = h
+right_same (jobs.Sample job) report a b same h = absurd h
+right_same job report a b same h = subst (λ x. IsRight job x report) same h
 
 -- ---- an input that is well formed
 
@@ -125,7 +74,7 @@ takes_all source source' other bytes reads taken = taken
 module _ (words : List (List ℕ)) (source source' : Stream) (bytes : List ℕ) (fit : FitJob) (ranked : Bool) (asked : AskFit words fit ranked) (told : Reads asked.job → source.bytes ≡ Some bytes) where
   -- a job of these words that reads the source takes the bytes that it tells
   pub told_to : (job : Job) → IsJobOf words job → Reads job → source.bytes ≡ Some bytes
-  told_to job again reads = told (also_reads words asked.job job (one_request words asked.job job asked.asked again) reads)
+  told_to job again reads = told (also_reads asked.job job (one_request words asked.job job asked.asked again) reads)
 
   -- so the table of a job is that of these bytes
   pub same_table : (asker : Job) → IsJobOf words asker → (job : Job) (other : List ℕ) → WereRead words source source' job other → table_bytes asker other ≡ table_bytes asker bytes
@@ -133,24 +82,18 @@ module _ (words : List (List ℕ)) (source source' : Stream) (bytes : List ℕ) 
     where
       whole : (asker : Job) → IsJobOf words asker → Reads asker → other ≡ bytes
       whole asker again reads =
-          let here : Reads job = also_reads words job asker (one_request words job asker read.asked again) reads in
+          let here : Reads job = also_reads job asker (one_request words job asker read.asked again) reads in
           were_told source source' bytes (told_to job read.asked here) other (takes_all source source' job other here read.taken)
 
       by : (asker : Job) → IsJobOf words asker → table_bytes asker other ≡ table_bytes asker bytes
-      by (jobs.Process fit) again = whole (jobs.Process fit) again tt
-      by (jobs.Ranks fit) again = whole (jobs.Ranks fit) again tt
-      by (jobs.Certify fit) again = whole (jobs.Certify fit) again tt
-      by jobs.Check again = whole jobs.Check again tt
-      by (jobs.Predict fit) again = whole (jobs.Predict fit) again tt
-      by (jobs.Test job) again = whole (jobs.Test job) again tt
-      by (jobs.Path job) again = whole (jobs.Path job) again tt
       by (jobs.Sample job) again = refl
+      by job again = whole job again tt
 
 module _ (lawful : PathHasCosts) (words : List (List ℕ)) (source source' : Stream) (bytes : List ℕ) (w : IsWellFormed words source bytes) where
   short : ¬ IsTooLong words source source'
   short h =
       none_beyond source source' bytes (told_to words source source' bytes w.fit w.ranked w.asked w.told h.job h.asked h.reads)
-      (w.short (also_reads words w.asked.job h.job (one_request words w.asked.job h.job w.asked.asked h.asked) h.reads)) h.came
+      (w.short (also_reads w.asked.job h.job (one_request words w.asked.job h.job w.asked.asked h.asked) h.reads)) h.came
 
   same_bytes : (job : Job) (other : List ℕ) → WereRead words source source' job other → table_bytes job other ≡ table_bytes job bytes
   same_bytes job other read = same_table words source source' bytes w.fit w.ranked w.asked w.told job read.asked job other read
@@ -175,16 +118,6 @@ module _ (lawful : PathHasCosts) (words : List (List ℕ)) (source source' : Str
       by (refusals.CertTooLong length) h = w.sound fit ranked asked (refusals.CertTooLong length) h
       by (refusals.Certificate fault) h = w.sound fit ranked asked (refusals.Certificate fault) h
 
-  -- the words ask for no check, for no rank test and for no path
-  unchecked : IsJobOf words jobs.Check → ⊥
-  unchecked asked = no_check words w.asked.job w.fit w.ranked w.asked.is (one_request words jobs.Check w.asked.job asked w.asked.asked)
-
-  testless : (job : TestJob) → IsJobOf words (jobs.Test job) → ⊥
-  testless job asked = no_test words w.asked.job w.fit w.ranked w.asked.is job (one_request words (jobs.Test job) w.asked.job asked w.asked.asked)
-
-  pathless : (job : PathJob) → IsJobOf words (jobs.Path job) → ⊥
-  pathless job asked = no_path words w.asked.job w.fit w.ranked w.asked.is job (one_request words (jobs.Path job) w.asked.job asked w.asked.asked)
-
   fit_refused : (fit : FitJob) (ranked : Bool) (job : Job) → IsFitJob job fit ranked → (refusal : Refusal) (other : List ℕ) → WereRead words source source' job other → ¬ HasFitCause fit ranked (table_bytes job other) (halts.Refused refusal)
   fit_refused fit ranked job is refusal other read cause =
       let asked : AskFit words fit ranked = record { job = job; asked = read.asked; is = is } in
@@ -193,20 +126,7 @@ module _ (lawful : PathHasCosts) (words : List (List ℕ)) (source source' : Str
   -- the certificate that is too long aside, no certificate is refused but as a fit is
   certify_refused : (fit : FitJob) (refusal : Refusal) → ((n : ℕ) → refusal ≢ refusals.CertTooLong n) → (other : List ℕ) → WereRead words source source' (jobs.Certify fit) other → ¬ HasCertifyCause fit other (halts.Refused refusal)
   certify_refused fit (refusals.CertTooLong n) short other read cause = short n refl
-  certify_refused fit (refusals.Dependent combination) short other read cause = fit_refused fit (is_some fit.rank) (jobs.Certify fit) (refl, refl) (refusals.Dependent combination) other read cause
-  certify_refused fit refusals.TooLong short other read cause = fit_refused fit (is_some fit.rank) (jobs.Certify fit) (refl, refl) refusals.TooLong other read cause
-  certify_refused fit (refusals.Table fault) short other read cause = fit_refused fit (is_some fit.rank) (jobs.Certify fit) (refl, refl) (refusals.Table fault) other read cause
-  certify_refused fit (refusals.Formula fault) short other read cause = fit_refused fit (is_some fit.rank) (jobs.Certify fit) (refl, refl) (refusals.Formula fault) other read cause
-  certify_refused fit refusals.RankWithPenalty short other read cause = fit_refused fit (is_some fit.rank) (jobs.Certify fit) (refl, refl) refusals.RankWithPenalty other read cause
-  certify_refused fit refusals.SmoothNotTaken short other read cause = fit_refused fit (is_some fit.rank) (jobs.Certify fit) (refl, refl) refusals.SmoothNotTaken other read cause
-  certify_refused fit (refusals.Design fault) short other read cause = fit_refused fit (is_some fit.rank) (jobs.Certify fit) (refl, refl) (refusals.Design fault) other read cause
-  certify_refused fit (refusals.Penalty fault) short other read cause = fit_refused fit (is_some fit.rank) (jobs.Certify fit) (refl, refl) (refusals.Penalty fault) other read cause
-  certify_refused fit (refusals.Program fault) short other read cause = fit_refused fit (is_some fit.rank) (jobs.Certify fit) (refl, refl) (refusals.Program fault) other read cause
-  certify_refused fit refusals.NothingToPredict short other read cause = fit_refused fit (is_some fit.rank) (jobs.Certify fit) (refl, refl) refusals.NothingToPredict other read cause
-  certify_refused fit (refusals.NoSuchColumn number) short other read cause = fit_refused fit (is_some fit.rank) (jobs.Certify fit) (refl, refl) (refusals.NoSuchColumn number) other read cause
-  certify_refused fit refusals.AllTested short other read cause = fit_refused fit (is_some fit.rank) (jobs.Certify fit) (refl, refl) refusals.AllTested other read cause
-  certify_refused fit (refusals.TooManyPredictions found) short other read cause = fit_refused fit (is_some fit.rank) (jobs.Certify fit) (refl, refl) (refusals.TooManyPredictions found) other read cause
-  certify_refused fit (refusals.Certificate fault) short other read cause = fit_refused fit (is_some fit.rank) (jobs.Certify fit) (refl, refl) (refusals.Certificate fault) other read cause
+  certify_refused fit refusal short other read cause = fit_refused fit (is_some fit.rank) (jobs.Certify fit) (refl, refl) refusal other read cause
 
   -- predictions are refused neither as a fit is nor as those
   predict_refused : (fit : FitJob) (refusal : Refusal) (other : List ℕ) → WereRead words source source' (jobs.Predict fit) other → ¬ HasPredictCause fit other (halts.Refused refusal)
@@ -220,20 +140,7 @@ module _ (lawful : PathHasCosts) (words : List (List ℕ)) (source source' : Str
           dependent (sample value h.asked.input.problem) _ h.cause.dependence
           (w.rank fit true h.asked.input (record { job = jobs.Predict fit; asked = read.asked; is = (refl, refl) })
           (subst (λ b. IsInput fit true b h.asked.input) (same_bytes (jobs.Predict fit) other read) (asked_input fit other h.asked h.is)))
-      by refusals.TooLong h = none refusals.TooLong h
-      by (refusals.Table fault) h = none (refusals.Table fault) h
-      by (refusals.Formula fault) h = none (refusals.Formula fault) h
-      by refusals.RankWithPenalty h = none refusals.RankWithPenalty h
-      by refusals.SmoothNotTaken h = none refusals.SmoothNotTaken h
-      by (refusals.Design fault) h = none (refusals.Design fault) h
-      by (refusals.Penalty fault) h = none (refusals.Penalty fault) h
-      by (refusals.Program fault) h = none (refusals.Program fault) h
-      by refusals.NothingToPredict h = none refusals.NothingToPredict h
-      by (refusals.NoSuchColumn number) h = none (refusals.NoSuchColumn number) h
-      by refusals.AllTested h = none refusals.AllTested h
-      by (refusals.TooManyPredictions found) h = none (refusals.TooManyPredictions found) h
-      by (refusals.CertTooLong length) h = none (refusals.CertTooLong length) h
-      by (refusals.Certificate fault) h = none (refusals.Certificate fault) h
+      by refusal h = none refusal h
 
   not_refused : (refusal : Refusal) → ((n : ℕ) → refusal ≢ refusals.CertTooLong n) → ¬ IsHalted words source source' (halts.Refused refusal)
   not_refused refusal short h = by h.job h.read h.cause
@@ -242,25 +149,13 @@ module _ (lawful : PathHasCosts) (words : List (List ℕ)) (source source' : Str
       by (jobs.Process fit) read cause = fit_refused fit (is_some fit.rank) (jobs.Process fit) (refl, refl) refusal h.bytes read cause
       by (jobs.Ranks fit) read cause = fit_refused fit true (jobs.Ranks fit) (refl, refl) refusal h.bytes read cause
       by (jobs.Certify fit) read cause = certify_refused fit refusal short h.bytes read cause
-      by jobs.Check read cause = unchecked read.asked
       by (jobs.Predict fit) read cause = predict_refused fit refusal h.bytes read cause
-      by (jobs.Test job) read cause = testless job read.asked
-      by (jobs.Path job) read cause = pathless job read.asked
       by (jobs.Sample job) read cause = fit_refused (sample_fit job) false (jobs.Sample job) (refl, refl) refusal h.bytes read cause
+      by job read cause = absurd (fitting words w.fit w.ranked w.asked job read.asked).2
 
   -- and none is rejected
   not_rejected : (rejection : Rejection) → ¬ IsHalted words source source' (halts.Rejected rejection)
-  not_rejected rejection h = by h.job h.read h.cause
-    where
-      by : (job : Job) → WereRead words source source' job h.bytes → engine.HasCause job h.bytes (halts.Rejected rejection) → ⊥
-      by (jobs.Process fit) read cause = absurd cause.2.cause
-      by (jobs.Ranks fit) read cause = absurd cause.2.cause
-      by (jobs.Certify fit) read cause = absurd cause.2.cause
-      by jobs.Check read cause = unchecked read.asked
-      by (jobs.Predict fit) read cause = absurd cause.2.cause
-      by (jobs.Test job) read cause = testless job read.asked
-      by (jobs.Path job) read cause = pathless job read.asked
-      by (jobs.Sample job) read cause = absurd cause.2.cause
+  not_rejected rejection h = (fitting words w.fit w.ranked w.asked jobs.Check (rejected_check words source source' rejection h)).2
 
   pub answered : (out out' err err' : Stream) (outcome : Outcome) → IsRun words source source' out out' err err' outcome → NoneRose source source' out out' err err' → IsAnswer words source source' bytes outcome
   answered =
@@ -281,7 +176,7 @@ module _ (words : List (List ℕ)) (source source' : Stream) where
 
   -- where the words ask for a fit, a right report is of such a process
   pub report_process : (first : FitJob) (kind : Bool) → AskFit words first kind → (report : Report) → IsAnswered words source source' report → ProcessRead
-  report_process first kind asked report h = by h.job report h.read h.right
+  report_process first kind asked report h = by h.job report (fitting words first kind asked h.job h.read.asked) h.read h.right
     where
       was : (fit : FitJob) (input : Input) (ranked : Bool) (job : Job) → IsFitJob job fit ranked → WereRead words source source' job h.bytes → IsInput fit ranked (table_bytes job h.bytes) input → WasInput words source source' fit input
       was fit input ranked job is_job read is =
@@ -299,44 +194,12 @@ module _ (words : List (List ℕ)) (source source' : Stream) where
         },
       )
 
-      by : (job : Job) (report : Report) → WereRead words source source' job h.bytes → IsRight job h.bytes report → ProcessRead
-      by (jobs.Process fit) (reports.Process f) read right = of_fit fit right.0 f (was fit right.0 (is_some fit.rank) (jobs.Process fit) (refl, refl) read right.1) right.2
-      by (jobs.Process fit) (reports.Ranks f) read right = absurd right
-      by (jobs.Process fit) (reports.Certificate c) read right = absurd right
-      by (jobs.Process fit) (reports.Checked c) read right = absurd right
-      by (jobs.Process fit) (reports.Predict f) read right = absurd right
-      by (jobs.Process fit) (reports.Test f) read right = absurd right
-      by (jobs.Process fit) (reports.Path f) read right = absurd right
-      by (jobs.Process fit) (reports.Sample f) read right = absurd right
-      by (jobs.Ranks fit) (reports.Process f) read right = absurd right
-      by (jobs.Ranks fit) (reports.Ranks f) read right = of_fit fit right.0 f.fit (was fit right.0 true (jobs.Ranks fit) (refl, refl) read right.1) right.2.fit
-      by (jobs.Ranks fit) (reports.Certificate c) read right = absurd right
-      by (jobs.Ranks fit) (reports.Checked c) read right = absurd right
-      by (jobs.Ranks fit) (reports.Predict f) read right = absurd right
-      by (jobs.Ranks fit) (reports.Test f) read right = absurd right
-      by (jobs.Ranks fit) (reports.Path f) read right = absurd right
-      by (jobs.Ranks fit) (reports.Sample f) read right = absurd right
-      by (jobs.Certify fit) (reports.Process f) read right = absurd right
-      by (jobs.Certify fit) (reports.Ranks f) read right = absurd right
-      by (jobs.Certify fit) (reports.Certificate c) read right = of_fit fit right.0.0 right.0.2.fit (was fit right.0.0 (is_some fit.rank) (jobs.Certify fit) (refl, refl) read right.0.1) right.0.2.right
-      by (jobs.Certify fit) (reports.Checked c) read right = absurd right
-      by (jobs.Certify fit) (reports.Predict f) read right = absurd right
-      by (jobs.Certify fit) (reports.Test f) read right = absurd right
-      by (jobs.Certify fit) (reports.Path f) read right = absurd right
-      by (jobs.Certify fit) (reports.Sample f) read right = absurd right
-      by jobs.Check (reports.Process f) read right = absurd right
-      by jobs.Check (reports.Ranks f) read right = absurd right
-      by jobs.Check (reports.Certificate c) read right = absurd right
-      by jobs.Check (reports.Checked c) read right = absurd (no_check words asked.job first kind asked.is (one_request words jobs.Check asked.job read.asked asked.asked))
-      by jobs.Check (reports.Predict f) read right = absurd right
-      by jobs.Check (reports.Test f) read right = absurd right
-      by jobs.Check (reports.Path f) read right = absurd right
-      by jobs.Check (reports.Sample f) read right = absurd right
-      by (jobs.Predict fit) (reports.Process f) read right = absurd right
-      by (jobs.Predict fit) (reports.Ranks f) read right = absurd right
-      by (jobs.Predict fit) (reports.Certificate c) read right = absurd right
-      by (jobs.Predict fit) (reports.Checked c) read right = absurd right
-      by (jobs.Predict fit) (reports.Predict f) read right = (
+      by : (job : Job) (report : Report) → IsFitting job → WereRead words source source' job h.bytes → IsRight job h.bytes report → ProcessRead
+      by (jobs.Process fit) (reports.Process f) fits read right = of_fit fit right.0 f (was fit right.0 (is_some fit.rank) (jobs.Process fit) (refl, refl) read right.1) right.2
+      by (jobs.Ranks fit) (reports.Ranks f) fits read right = of_fit fit right.0 f.fit (was fit right.0 true (jobs.Ranks fit) (refl, refl) read right.1) right.2.fit
+      by (jobs.Certify fit) (reports.Certificate c) fits read right = of_fit fit right.0.0 right.0.2.fit (was fit right.0.0 (is_some fit.rank) (jobs.Certify fit) (refl, refl) read right.0.1) right.0.2.right
+      by (jobs.Sample job) (reports.Sample f) fits read right = of_fit (sample_fit job) right.0 f (was (sample_fit job) right.0 false (jobs.Sample job) (refl, refl) read right.1) right.2
+      by (jobs.Predict fit) (reports.Predict f) fits read right = (
         fit,
         right.0.input,
         f.process,
@@ -346,19 +209,7 @@ module _ (words : List (List ℕ)) (source source' : Stream) where
           right = right.2.process;
         },
       )
-      by (jobs.Predict fit) (reports.Test f) read right = absurd right
-      by (jobs.Predict fit) (reports.Path f) read right = absurd right
-      by (jobs.Predict fit) (reports.Sample f) read right = absurd right
-      by (jobs.Test job) report read right = absurd (no_test words asked.job first kind asked.is job (one_request words (jobs.Test job) asked.job read.asked asked.asked))
-      by (jobs.Path job) report read right = absurd (no_path words asked.job first kind asked.is job (one_request words (jobs.Path job) asked.job read.asked asked.asked))
-      by (jobs.Sample job) (reports.Process f) read right = absurd right
-      by (jobs.Sample job) (reports.Ranks f) read right = absurd right
-      by (jobs.Sample job) (reports.Certificate c) read right = absurd right
-      by (jobs.Sample job) (reports.Checked c) read right = absurd right
-      by (jobs.Sample job) (reports.Predict f) read right = absurd right
-      by (jobs.Sample job) (reports.Test f) read right = absurd right
-      by (jobs.Sample job) (reports.Path f) read right = absurd right
-      by (jobs.Sample job) (reports.Sample f) read right = of_fit (sample_fit job) right.0 f (was (sample_fit job) right.0 false (jobs.Sample job) (refl, refl) read right.1) right.2
+      by job report fits read right = absurd search
 
 module _ (lawful : PathHasCosts) (words : List (List ℕ)) (source source' : Stream) where
   -- what a trail that reaches a limit says of it

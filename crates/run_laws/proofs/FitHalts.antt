@@ -1,5 +1,5 @@
 -- Where words ask for a fit, of which fit a halt is; and so what comes where its limit is reached, or its columns are dependent.
-use Rattle.std.specs.Prelude.{◌⊎◌, ℕ, ◌≤◌, Bool, true, false, is_some, List, length, slice_index}
+use Rattle.std.specs.Prelude.{◌⊎◌, ℕ, ◌≤◌, Bool, is_some, List, length, slice_index}
 use Rattle.std.proofs.Common.{refl, subst, inl, inr}
 use Rattle.rational_laws.specs.Fraction.{rational}
 use Rattle.rational_laws.specs.Rational.{ℚ}
@@ -17,7 +17,6 @@ use Rattle.walk_model.proofs.Trails.{one_process}
 use Rattle.tau_process.specs.Processes.{HasResults}
 use Rattle.tau_process.specs.Stops.{IsProcessSpill}
 use Rattle.stop_laws.proofs.Needed.{dependent, process_full}
-use Rattle.lambda_path.specs.Laws.{PathHasCosts}
 use Rattle.cert_checker.specs.declared.verdict.Rejection.{Rejection}
 use Rattle.rq_words.specs.declared.job.FitJob.{FitJob}
 use Rattle.rq_words.specs.declared.job.Job.{Job}
@@ -33,106 +32,38 @@ use Rattle.rq_engine.specs.Asks.{IsFitAsk}
 use Rattle.rq_engine.specs.Fit.{IsRightProcess}
 use Rattle.rq_engine.specs.Stops.{IsFitSpill, most}
 use Rattle.rq_engine.proofs.Costs.{high_costs, low_costs}
-use Rattle.rq_engine.proofs.Scoring.{unit_ask}
-use Rattle.rq_engine.specs.Answers as engine
-use Rattle.rq_engine.specs.Answers.{HasCertifyCause, HasFitCause, HasPredictCause, LacksFit, LacksPredictFit}
-use Rattle.rq_engine.specs.Jobs.{sample_fit, sample_table}
-use Rattle.rq_engine.proofs.Asked.{asked_job}
-use Rattle.rq_cli.specs.Outcomes.{IsHalted, IsRun, Stream, WereRead}
+use Rattle.rq_cli.specs.Outcomes.{IsHalted, IsRun, Stream}
 use Rattle.rq_cli.specs.declared.outcome.Outcome.{Outcome}
 use Rattle.rq_cli.specs.declared.outcome.Outcome.TheVariants.{Done, Refused, PivotLimit, Overflow, Rejected}
 use Rattle.run_laws.specs.Completeness.{IsAtProcess, IsDependentOutcome, IsLimitedProblem, IsLimitOutcome, StartOverflows}
-use Rattle.run_laws.specs.NeededOutcomes.{AskFit, IsFitJob, WasInput, table_bytes}
-use Rattle.run_laws.proofs.AskedInputs.{asked_input}
-use Rattle.run_laws.proofs.Complete.{no_check, no_path, no_test, one_request, report_process}
-use Rattle.run_laws.proofs.Needed.{length_needed}
+use Rattle.run_laws.specs.NeededOutcomes.{AskFit, WasInput}
+use Rattle.run_laws.proofs.Complete.{report_process}
+use Rattle.run_laws.proofs.Jobs.{IsFitHalt, IsPredictHalt, dependence_lacks, fit_lacks, fitting, limit_lacks, long_certificate, overflow_lacks, rejected_check}
 
 module _ (words : List (List ℕ)) (source source' : Stream) where
-  -- the problem of this input of a fit has none, for this halt
-  pub record IsFitHalt (halt : Halt) : Type 0 where
-    pub fit : FitJob
-    pub ask : IsFitAsk fit
-    pub ranked : Bool
-    pub bytes : List ℕ
-    pub lacks : LacksFit fit ranked bytes halt
-    pub was : WasInput words source source' fit lacks.input
-
-  -- its rows have no predictions, for this halt
-  pub record IsPredictHalt (halt : Halt) : Type 0 where
-    pub fit : FitJob
-    pub ask : IsFitAsk fit
-    pub bytes : List ℕ
-    pub lacks : LacksPredictFit fit bytes halt
-    pub was : WasInput words source source' fit lacks.asked.input
+  -- the problem of a fit has none, for this halt, or rows no predictions
+  abbrev IsUnfit : Halt → Type 0
+  IsUnfit halt = IsFitHalt words source source' halt ⊎ IsPredictHalt words source source' halt
 
   module _ (first : FitJob) (kind : Bool) (asked : AskFit words first kind) where
-    module _ (halt : Halt)
-        (of_fit : (fit : FitJob) (ranked : Bool) (bytes : List ℕ) → HasFitCause fit ranked bytes halt → LacksFit fit ranked bytes halt)
-        (of_certify : (fit : FitJob) (bytes : List ℕ) → HasCertifyCause fit bytes halt → LacksFit fit (is_some fit.rank) bytes halt)
-        (of_predict : (fit : FitJob) (bytes : List ℕ) → HasPredictCause fit bytes halt → LacksPredictFit fit bytes halt) where
-      -- where a cause of the halt is that a problem has no fit, or rows no predictions, a halt of these words is so
-      halt_of : IsHalted words source source' halt → IsFitHalt halt ⊎ IsPredictHalt halt
-      halt_of h = by h.job h.read h.cause
-        where
-          make : (fit : FitJob) → IsFitAsk fit → (ranked : Bool) (job : Job) → IsFitJob job fit ranked → WereRead words source source' job h.bytes → LacksFit fit ranked (table_bytes job h.bytes) halt → IsFitHalt halt
-          make fit ask ranked job is read lacks =
-              record {
-                fit = fit;
-                ask = ask;
-                ranked = ranked;
-                bytes = table_bytes job h.bytes;
-                lacks = lacks;
-                was = record { ranked = ranked; bytes = h.bytes; asked = record { job = job; asked = read.asked; is = is }; read = (job, read); is = lacks.is };
-              }
+    pub limit_of : (place : Place) (limit : ℕ) (trail : Trail Frac128) → IsHalted words source source' (halts.PivotLimit place limit trail) → IsUnfit (halts.PivotLimit place limit trail)
+    limit_of place limit trail h = fit_lacks words source source' first kind asked (halts.PivotLimit place limit trail) (limit_lacks words source source' place limit trail h)
 
-          by : (job : Job) → WereRead words source source' job h.bytes → engine.HasCause job h.bytes halt → IsFitHalt halt ⊎ IsPredictHalt halt
-          by (jobs.Process fit) read cause = inl (make fit (asked_job words (jobs.Process fit) read.asked).0 (is_some fit.rank) (jobs.Process fit) (refl, refl) read (of_fit fit (is_some fit.rank) h.bytes cause))
-          by (jobs.Ranks fit) read cause = inl (make fit (unit_ask fit (asked_job words (jobs.Ranks fit) read.asked).0) true (jobs.Ranks fit) (refl, refl) read (of_fit fit true h.bytes cause))
-          by (jobs.Certify fit) read cause = inl (make fit (asked_job words (jobs.Certify fit) read.asked).0 (is_some fit.rank) (jobs.Certify fit) (refl, refl) read (of_certify fit h.bytes cause))
-          by jobs.Check read cause = absurd (no_check words asked.job first kind asked.is (one_request words jobs.Check asked.job read.asked asked.asked))
-          by (jobs.Predict fit) read cause =
-              let lacks = of_predict fit h.bytes cause in
-              inr (record {
-                fit = fit;
-                ask = (asked_job words (jobs.Predict fit) read.asked).0;
-                bytes = h.bytes;
-                lacks = lacks;
-                was = record { ranked = true; bytes = h.bytes; asked = record { job = jobs.Predict fit; asked = read.asked; is = (refl, refl) }; read = (jobs.Predict fit, read); is = asked_input fit h.bytes lacks.asked lacks.is };
-              })
-          by (jobs.Test job) read cause = absurd (no_test words asked.job first kind asked.is job (one_request words (jobs.Test job) asked.job read.asked asked.asked))
-          by (jobs.Path job) read cause = absurd (no_path words asked.job first kind asked.is job (one_request words (jobs.Path job) asked.job read.asked asked.asked))
-          by (jobs.Sample job) read cause = inl (make (sample_fit job) (asked_job words (jobs.Sample job) read.asked).ask false (jobs.Sample job) (refl, refl) read (of_fit (sample_fit job) false (sample_table job) cause))
+    pub overflow_of : (place : Place) (trail : Trail Frac128) (spill : Spill Frac128) → IsHalted words source source' (halts.Overflow place trail spill) → IsUnfit (halts.Overflow place trail spill)
+    overflow_of place trail spill h = fit_lacks words source source' first kind asked (halts.Overflow place trail spill) (overflow_lacks words source source' place trail spill h)
 
-    limit_of : (place : Place) (limit : ℕ) (trail : Trail Frac128) → IsHalted words source source' (halts.PivotLimit place limit trail) → IsFitHalt (halts.PivotLimit place limit trail) ⊎ IsPredictHalt (halts.PivotLimit place limit trail)
-    limit_of place limit trail = halt_of (halts.PivotLimit place limit trail) (λ fit ranked bytes h. h) (λ fit bytes h. h) (λ fit bytes h. h)
-
-    overflow_of : (place : Place) (trail : Trail Frac128) (spill : Spill Frac128) → IsHalted words source source' (halts.Overflow place trail spill) → IsFitHalt (halts.Overflow place trail spill)
-        ⊎ IsPredictHalt (halts.Overflow place trail spill)
-    overflow_of place trail spill = halt_of (halts.Overflow place trail spill) (λ fit ranked bytes h. h) (λ fit bytes h. h) (λ fit bytes h. h)
-
-    dependent_of : (combination : List Frac128) → IsHalted words source source' (halts.Refused (refusals.Dependent combination)) → IsFitHalt (halts.Refused (refusals.Dependent combination))
-        ⊎ IsPredictHalt (halts.Refused (refusals.Dependent combination))
-    dependent_of combination = halt_of (halts.Refused (refusals.Dependent combination)) (λ fit ranked bytes h. h) (λ fit bytes h. h) (λ fit bytes h. h)
+    pub dependent_of : (combination : List Frac128) → IsHalted words source source' (halts.Refused (refusals.Dependent combination)) → IsUnfit (halts.Refused (refusals.Dependent combination))
+    dependent_of combination h = fit_lacks words source source' first kind asked (halts.Refused (refusals.Dependent combination)) (dependence_lacks words source source' combination h)
 
     -- no fit is rejected
     not_rejected : (rejection : Rejection) → ¬ IsHalted words source source' (halts.Rejected rejection)
-    not_rejected rejection h = by h.job h.read h.cause
-      where
-        by : (job : Job) → WereRead words source source' job h.bytes → engine.HasCause job h.bytes (halts.Rejected rejection) → ⊥
-        by (jobs.Process fit) read cause = absurd cause.2.cause
-        by (jobs.Ranks fit) read cause = absurd cause.2.cause
-        by (jobs.Certify fit) read cause = absurd cause.2.cause
-        by jobs.Check read cause = no_check words asked.job first kind asked.is (one_request words jobs.Check asked.job read.asked asked.asked)
-        by (jobs.Predict fit) read cause = absurd cause.2.cause
-        by (jobs.Test job) read cause = no_test words asked.job first kind asked.is job (one_request words (jobs.Test job) asked.job read.asked asked.asked)
-        by (jobs.Path job) read cause = no_path words asked.job first kind asked.is job (one_request words (jobs.Path job) asked.job read.asked asked.asked)
-        by (jobs.Sample job) read cause = absurd cause.2.cause
+    not_rejected rejection h = (fitting words first kind asked jobs.Check (rejected_check words source source' rejection h)).2
 
     -- the right process of a certificate that is too long
-    long_process : (lawful : PathHasCosts) (n : ℕ) → IsHalted words source source' (halts.Refused (refusals.CertTooLong n))
+    long_process : (n : ℕ) → IsHalted words source source' (halts.Refused (refusals.CertTooLong n))
         → (fit : FitJob) × (input : Input) × (q : Process Frac128) × WasInput words source source' fit input × IsRightProcess value fit input.problem q
-    long_process lawful n h =
-        let long = length_needed lawful words source source' n h in
+    long_process n h =
+        let long = long_certificate words source source' n h in
         let read = long.2 in
         let right = long.3.right in
         let of = right.2.right in (
@@ -145,7 +76,7 @@ module _ (words : List (List ℕ)) (source source' : Stream) where
 
     -- ---- a limit that is reached
 
-    module _ (lawful : PathHasCosts) (reaches : (fit : FitJob) (input : Input) → WasInput words source source' fit input → IsLimitedProblem fit input.problem) where
+    module _ (reaches : (fit : FitJob) (input : Input) → WasInput words source source' fit input → IsLimitedProblem fit input.problem) where
       -- a process at its end within the limit excludes it
       not_ended : (fit : FitJob) → IsFitAsk fit → (input : Input) → HasRows input → WasInput words source source' fit input → (q : Process Frac128)
           → HasResults value input.problem (rational (value fit.lo)) (rational (value fit.hi)) q → ¬ (length q.trail.steps ≤ fit.limit)
@@ -159,35 +90,22 @@ module _ (words : List (List ℕ)) (source source' : Stream) where
           let limited = reaches fit input was in
           process_full value (sample value input.problem) (rational (value fit.lo)) (rational (value fit.hi)) fit.limit limited.0 limited.1
 
-      limit_at : (place : Place) (limit : ℕ) (trail : Trail Frac128) → IsFitHalt (halts.PivotLimit place limit trail) ⊎ IsPredictHalt (halts.PivotLimit place limit trail) → IsAtProcess place
+      limit_at : (place : Place) (limit : ℕ) (trail : Trail Frac128) → IsUnfit (halts.PivotLimit place limit trail) → IsAtProcess place
       limit_at places.Process limit trail h = tt
       limit_at (places.Interval column tau) limit trail (inl h) = let of = h.lacks.cause in not_ended h.fit h.ask h.lacks.input h.lacks.rows h.was of.process of.results of.short
-      limit_at (places.Interval column tau) limit trail (inr h) = h.lacks.cause
-      limit_at places.Check limit trail (inl h) = h.lacks.cause
-      limit_at places.Check limit trail (inr h) = h.lacks.cause
-      limit_at (places.Predict rec) limit trail (inl h) = h.lacks.cause
-      limit_at (places.Predict rec) limit trail (inr h) = h.lacks.cause
-      limit_at places.Full limit trail (inl h) = h.lacks.cause
-      limit_at places.Full limit trail (inr h) = h.lacks.cause
-      limit_at places.Path limit trail (inl h) = h.lacks.cause
-      limit_at places.Path limit trail (inr h) = h.lacks.cause
+      limit_at other limit trail (inr h) = h.lacks.cause
+      limit_at other limit trail (inl h) = h.lacks.cause
 
-      overflow_at : (place : Place) (trail : Trail Frac128) (spill : Spill Frac128) → IsFitHalt (halts.Overflow place trail spill) ⊎ IsPredictHalt (halts.Overflow place trail spill) → IsAtProcess place
+      overflow_at : (place : Place) (trail : Trail Frac128) (spill : Spill Frac128) → IsUnfit (halts.Overflow place trail spill) → IsAtProcess place
       overflow_at places.Process trail spill h = tt
       overflow_at (places.Interval column tau) trail spill (inl h) = let of = h.lacks.cause in not_ended h.fit h.ask h.lacks.input h.lacks.rows h.was of.process of.results of.short
-      overflow_at (places.Interval column tau) trail spill (inr h) = h.lacks.cause
-      overflow_at places.Check trail spill (inl h) = h.lacks.cause
-      overflow_at places.Check trail spill (inr h) = h.lacks.cause
-      overflow_at (places.Predict rec) trail spill (inl h) = h.lacks.cause
       overflow_at (places.Predict rec) trail spill (inr h) =
           let of = h.lacks.cause in
           not_ended h.fit h.ask h.lacks.asked.input h.lacks.rows h.was (record { segments = of.segments; trail = trail }) of.results of.short
-      overflow_at places.Full trail spill (inl h) = h.lacks.cause
-      overflow_at places.Full trail spill (inr h) = h.lacks.cause
-      overflow_at places.Path trail spill (inl h) = h.lacks.cause
-      overflow_at places.Path trail spill (inr h) = h.lacks.cause
+      overflow_at other trail spill (inr h) = h.lacks.cause
+      overflow_at other trail spill (inl h) = h.lacks.cause
 
-      independent : (combination : List Frac128) → IsFitHalt (halts.Refused (refusals.Dependent combination)) ⊎ IsPredictHalt (halts.Refused (refusals.Dependent combination)) → ⊥
+      independent : (combination : List Frac128) → IsUnfit (halts.Refused (refusals.Dependent combination)) → ⊥
       independent combination (inl h) = dependent (sample value h.lacks.input.problem) _ h.lacks.cause.dependence (full h.fit h.lacks.input h.was)
       independent combination (inr h) = dependent (sample value h.lacks.asked.input.problem) _ h.lacks.cause.dependence (full h.fit h.lacks.asked.input h.was)
 
@@ -196,13 +114,13 @@ module _ (words : List (List ℕ)) (source source' : Stream) where
       limited out out' err err' (PivotLimit place limit trail) run = limit_at place limit trail (limit_of place limit trail run.cause)
       limited out out' err err' (Overflow place trail spill) run = overflow_at place trail spill (overflow_of place trail spill run.cause)
       limited out out' err err' (Refused (refusals.Dependent combination)) run = independent combination (dependent_of combination run.cause)
-      limited out out' err err' (Refused (refusals.CertTooLong n)) run = let h = long_process lawful n run.cause in h.4.unlimited (reaches h.0 h.1 h.3)
+      limited out out' err err' (Refused (refusals.CertTooLong n)) run = let h = long_process n run.cause in h.4.unlimited (reaches h.0 h.1 h.3)
       limited out out' err err' (Rejected rejection) run = not_rejected rejection run.cause
       limited out out' err err' outcome run = tt
 
     -- ---- dependent columns
 
-    module _ (lawful : PathHasCosts) (ranked : (fit : FitJob) (input : Input) → WasInput words source source' fit input → ¬ HasFullRank (sample value input.problem)) where
+    module _ (ranked : (fit : FitJob) (input : Input) → WasInput words source source' fit input → ¬ HasFullRank (sample value input.problem)) where
       -- a walk that is at its end stands at a basis
       no_results : (fit : FitJob) (input : Input) → WasInput words source source' fit input → (lo hi : ℚ) (q : Process Frac128) → ¬ HasResults value input.problem lo hi q
       no_results fit input was lo hi q results = ranked fit input was (full_rank (sample value input.problem) (slice_index results.basis) results.ended.a results.ended.is_basis)
@@ -226,40 +144,31 @@ module _ (words : List (List ℕ)) (source source' : Stream) where
           reached : (fit : FitJob) (input : Input) → WasInput words source source' fit input → ReachesProcessLimit value (sample value input.problem) (rational (value fit.lo)) (rational (value fit.hi)) fit.limit trail → ⊥
           reached fit input was h = ranked fit input was (process_full value (sample value input.problem) (rational (value fit.lo)) (rational (value fit.hi)) fit.limit trail h)
 
-          at : (place : Place) → IsFitHalt (halts.PivotLimit place limit trail) → ⊥
+          at : (place : Place) → IsFitHalt words source source' (halts.PivotLimit place limit trail) → ⊥
           at places.Process h = reached h.fit h.lacks.input h.was h.lacks.cause.1
           at (places.Interval column tau) h = no_results h.fit h.lacks.input h.was _ _ h.lacks.cause.process h.lacks.cause.results
           at other h = h.lacks.cause
 
-          at_rows : (place : Place) → IsPredictHalt (halts.PivotLimit place limit trail) → ⊥
+          at_rows : (place : Place) → IsPredictHalt words source source' (halts.PivotLimit place limit trail) → ⊥
           at_rows places.Process h = reached h.fit h.lacks.asked.input h.was h.lacks.cause.1
           at_rows other h = h.lacks.cause
 
-          by : IsFitHalt (halts.PivotLimit place limit trail) ⊎ IsPredictHalt (halts.PivotLimit place limit trail) → ⊥
+          by : IsUnfit (halts.PivotLimit place limit trail) → ⊥
           by (inl h) = at place h
           by (inr h) = at_rows place h
 
-      abbrev Spilled : Place → Trail Frac128 → Spill Frac128 → Type 0
-      Spilled place trail spill = IsFitHalt (halts.Overflow place trail spill) ⊎ IsPredictHalt (halts.Overflow place trail spill)
-
-      in_start : (place : Place) (trail : Trail Frac128) (spill : Spill Frac128) → Spilled place trail spill → IsDependentOutcome words source source' (Overflow place trail spill)
+      in_start : (place : Place) (trail : Trail Frac128) (spill : Spill Frac128) → IsUnfit (halts.Overflow place trail spill) → IsDependentOutcome words source source' (Overflow place trail spill)
       in_start places.Process trail spill (inl h) = in_fit h.fit h.lacks.input h.was _ _ _ _ trail spill h.lacks.cause
       in_start places.Process trail spill (inr h) = in_process h.fit h.lacks.asked.input h.was _ _ _ trail spill h.lacks.cause
       in_start (places.Interval column tau) trail spill (inl h) = no_results h.fit h.lacks.input h.was _ _ h.lacks.cause.process h.lacks.cause.results
-      in_start (places.Interval column tau) trail spill (inr h) = h.lacks.cause
-      in_start places.Check trail spill (inl h) = h.lacks.cause
-      in_start places.Check trail spill (inr h) = h.lacks.cause
-      in_start (places.Predict rec) trail spill (inl h) = h.lacks.cause
       in_start (places.Predict rec) trail spill (inr h) = no_results h.fit h.lacks.asked.input h.was _ _ (record { segments = h.lacks.cause.segments; trail = trail }) h.lacks.cause.results
-      in_start places.Full trail spill (inl h) = h.lacks.cause
-      in_start places.Full trail spill (inr h) = h.lacks.cause
-      in_start places.Path trail spill (inl h) = h.lacks.cause
-      in_start places.Path trail spill (inr h) = h.lacks.cause
+      in_start other trail spill (inr h) = h.lacks.cause
+      in_start other trail spill (inl h) = h.lacks.cause
 
       pub unfitted : (out out' err err' : Stream) (outcome : Outcome) → IsRun words source source' out out' err err' outcome → IsDependentOutcome words source source' outcome
       unfitted out out' err err' (Done report) run = let h = report_process words source source' first kind asked report run.cause in no_results h.0 h.1 h.3.was _ _ h.2 h.3.right.results
       unfitted out out' err err' (PivotLimit place limit trail) run = unlimited place limit trail run.cause
       unfitted out out' err err' (Overflow place trail spill) run = in_start place trail spill (overflow_of place trail spill run.cause)
-      unfitted out out' err err' (Refused (refusals.CertTooLong n)) run = let h = long_process lawful n run.cause in no_results h.0 h.1 h.3 _ _ h.2 h.4.results
+      unfitted out out' err err' (Refused (refusals.CertTooLong n)) run = let h = long_process n run.cause in no_results h.0 h.1 h.3 _ _ h.2 h.4.results
       unfitted out out' err err' (Rejected rejection) run = not_rejected rejection run.cause
       unfitted out out' err err' outcome run = tt

@@ -29,14 +29,8 @@ use Rattle.run_laws.proofs.Complete.{answered}
 module _ (law : GeneratedTablesHaveNoFault) (lawful : PathHasCosts) (words : List (List ℕ)) (g : IsGenerated words) where
   -- words that ask for a generated table ask for no other job
   alone : (job : Job) → IsJobOf words job → (P : Job → Type 0) → ((s : SampleJob) → IsJobOf words (jobs.Sample s) → P (jobs.Sample s)) → P job
-  alone (jobs.Process fit) asked P p = absurd (cc (sym asked ∙ g.asked))
-  alone (jobs.Ranks fit) asked P p = absurd (cc (sym asked ∙ g.asked))
-  alone (jobs.Certify fit) asked P p = absurd (cc (sym asked ∙ g.asked))
-  alone jobs.Check asked P p = absurd (cc (sym asked ∙ g.asked))
-  alone (jobs.Predict fit) asked P p = absurd (cc (sym asked ∙ g.asked))
-  alone (jobs.Test job) asked P p = absurd (cc (sym asked ∙ g.asked))
-  alone (jobs.Path job) asked P p = absurd (cc (sym asked ∙ g.asked))
   alone (jobs.Sample s) asked P p = p s asked
+  alone job asked P p = absurd (cc (sym asked ∙ g.asked))
 
   -- its bytes have no fault
   table_sound : (s : SampleJob) → IsJobOf words (jobs.Sample s) → (refusal : Refusal) → ¬ HasInputCause (sample_fit s) false (sample_table s) (halts.Refused refusal)

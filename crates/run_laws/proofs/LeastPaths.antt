@@ -65,11 +65,5 @@ module _ (same : PathLoss) (never : SumNeverRises) (words : List (List ℕ)) (so
     where
       by : (job : Job) → WereRead words source source' job h.bytes → IsRight job h.bytes (reports.Path fit)
           → (job : PathJob) × (bytes : List ℕ) × (plain : PlainInput) × WereRead words source source' (jobs.Path job) bytes × IsPlain job.fit bytes plain × IsLeastPath job plain fit
-      by (jobs.Process f) read right = absurd right
-      by (jobs.Ranks f) read right = absurd right
-      by (jobs.Certify f) read right = absurd right
-      by jobs.Check read right = absurd right
-      by (jobs.Test t) read right = absurd right
-      by (jobs.Predict f) read right = absurd right
       by (jobs.Path job) read right = (job, h.bytes, right.0, read, right.1, least_path same never job right.0 fit right.2)
-      by (jobs.Sample s) read right = absurd right
+      by job read right = absurd right

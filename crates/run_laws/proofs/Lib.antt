@@ -27,6 +27,7 @@ mod Written
 mod AskedInputs
 mod AskedIntervals
 mod Spilled
+mod Jobs
 mod Needed
 mod Answering
 mod Complete

@@ -1,5 +1,5 @@
 -- What stops a run was needed.
-use Rattle.std.specs.Prelude.{◌≡◌, ℕ, ◌*◌, Bool, true, false, is_some, List}
+use Rattle.std.specs.Prelude.{◌≡◌, ℕ, ◌*◌, Bool, List}
 use Rattle.std.proofs.Common.{refl, sym, subst, inl, inr}
 use Rattle.rational_laws.specs.Fraction.{rational}
 use Rattle.frac_core.specs.declared.frac128.Frac128.{Frac128}
@@ -13,7 +13,6 @@ use Rattle.loss_model.specs.Problem.{sample}
 use Rattle.pivot_model.specs.Duals.{HasCosts}
 use Rattle.walk_model.specs.WalkTrails.{ReachesProcessLimit, ReachesIntervalLimit}
 use Rattle.pivot_laws.specs.BoundLaws.{further_bases}
-use Rattle.stop_laws.specs.NeededStops.{DoesOverflow}
 use Rattle.stop_laws.proofs.Needed.{below, dependent}
 use Rattle.stop_laws.proofs.Spilled.{of_process, start}
 use Rattle.stop_laws.proofs.IntervalsNeeded.{interval_needed}
@@ -29,27 +28,23 @@ use Rattle.rq_words.specs.declared.job.PathJob.{PathJob}
 use Rattle.rq_words.specs.declared.job.TestJob.{TestJob}
 use Rattle.report_text.specs.declared.report.Place.{Place}
 use Rattle.report_text.specs.declared.report.Place.TheVariants as places
-use Rattle.report_text.specs.declared.report.Refusal.TheVariants.{CertTooLong, Dependent}
+use Rattle.report_text.specs.declared.report.Refusal.TheVariants.{Dependent}
 use Rattle.report_text.specs.declared.report.Halt.TheVariants.{Refused, PivotLimit, Overflow}
-use Rattle.rq_input.specs.Inputs.{IsInput}
 use Rattle.rq_input.specs.Rows.{HasRows}
 use Rattle.rq_input.specs.declared.input.Input.{Input}
 use Rattle.rq_engine.specs.Asks.{IsFitAsk}
 use Rattle.rq_engine.specs.Stops.{HasStoppedInterval, most}
 use Rattle.rq_engine.proofs.Costs.{low_costs}
 use Rattle.rq_engine.proofs.Pathing.{low_costs as path_costs}
-use Rattle.rq_engine.proofs.Scoring.{unit_ask}
 use Rattle.rq_engine.proofs.Testing.{data_stays, input_data, restricted_low}
-use Rattle.rq_engine.specs.Answers as engine
-use Rattle.rq_engine.specs.Answers.{HasLongCertificate, LacksFit, LacksPathFit, LacksPredictFit, LacksTestFit}
-use Rattle.rq_engine.specs.Jobs.{sample_fit, sample_table}
+use Rattle.rq_engine.specs.Answers.{LacksFit, LacksPathFit, LacksPredictFit, LacksTestFit}
 use Rattle.rq_engine.proofs.Asked.{asked_job}
 use Rattle.rq_cli.specs.Outcomes.{Stream, IsHalted, WereRead}
-use Rattle.run_laws.specs.NeededOutcomes.{IsFitJob, IsLimitedAt, OverflowsAt, ReachesItsIntervalLimit, ReachesItsLimit, ReachesLimitAt, WasInput, WasPosed, WasWhole, table_bytes}
+use Rattle.run_laws.specs.NeededOutcomes.{IsLimitedAt, OverflowsAt, ReachesItsIntervalLimit, ReachesItsLimit, ReachesLimitAt, WasInput, WasPosed, WasWhole}
 use Rattle.rq_input.proofs.PlainInputs.{plain_rows}
 use Rattle.rq_input.proofs.TestedInputs.{ranked_rows}
-use Rattle.run_laws.proofs.AskedInputs.{asked_input}
 use Rattle.run_laws.proofs.AskedIntervals.{asked_there, critical_there, inner_costs}
+use Rattle.run_laws.proofs.Jobs.{Lacks, NoFit, NoPath, NoPredictions, NoTest, NoVerdict, dependence_lacks, limit_lacks, overflow_lacks}
 use Rattle.run_laws.proofs.Spilled.{of_first, of_fit, of_row, of_scored}
 
 -- ---- a limit
@@ -98,11 +93,6 @@ module _ (lawful : PathHasCosts) (words : List (List ℕ)) (source source' : Str
   abbrev IsDependentInput : Type 0
   IsDependentInput = (fit : FitJob) × (input : Input) × WasWhole words source source' fit input × ¬ HasFullRank (sample value input.problem)
 
-  was : (fit : FitJob) (input : Input) (ranked : Bool) (bytes : List ℕ) (job : Job) → IsFitJob job fit ranked → WereRead words source source' job bytes → IsInput fit ranked (table_bytes job bytes) input
-      → WasInput words source source' fit input
-  was fit input ranked bytes job is_job read is =
-      record { ranked = ranked; bytes = bytes; asked = record { job = job; asked = read.asked; is = is_job }; read = (job, read); is = is }
-
   -- the problem of an input is one that is posed
   posed : (fit : FitJob) (input : Input) → WasInput words source source' fit input → WasPosed words source source' fit input.problem
   posed fit input was = inl (input, was, refl)
@@ -139,145 +129,46 @@ module _ (lawful : PathHasCosts) (words : List (List ℕ)) (source source' : Str
   path_limited job bytes read other limit trail h = absurd h.cause
 
   pub limit_needed : (place : Place) (limit : ℕ) (trail : Trail Frac128) → IsHalted words source source' (PivotLimit place limit trail) → IsLimitedAt words source source' place limit trail
-  limit_needed place limit trail h = by h.job h.read h.cause
+  limit_needed place limit trail h = by (limit_lacks words source source' place limit trail h)
     where
-      by : (job : Job) → WereRead words source source' job h.bytes → engine.HasCause job h.bytes (PivotLimit place limit trail) → IsLimitedAt words source source' place limit trail
-      by (jobs.Process fit) read cause = (
-        fit,
-        cause.input.problem,
-        posed fit cause.input (was fit cause.input (is_some fit.rank) h.bytes (jobs.Process fit) (refl, refl) read cause.is),
-        reached fit (is_some fit.rank) h.bytes place limit trail (asked_job words (jobs.Process fit) read.asked).0 cause,
-      )
-      by (jobs.Ranks fit) read cause = (
-        fit,
-        cause.input.problem,
-        posed fit cause.input (was fit cause.input true h.bytes (jobs.Ranks fit) (refl, refl) read cause.is),
-        reached fit true h.bytes place limit trail (unit_ask fit (asked_job words (jobs.Ranks fit) read.asked).0) cause,
-      )
-      by (jobs.Certify fit) read cause = (
-        fit,
-        cause.input.problem,
-        posed fit cause.input (was fit cause.input (is_some fit.rank) h.bytes (jobs.Certify fit) (refl, refl) read cause.is),
-        reached fit (is_some fit.rank) h.bytes place limit trail (asked_job words (jobs.Certify fit) read.asked).0 cause,
-      )
-      by jobs.Check read cause = absurd cause
-      by (jobs.Predict fit) read cause = (
-        fit,
-        cause.asked.input.problem,
-        posed fit cause.asked.input (was fit cause.asked.input true h.bytes (jobs.Predict fit) (refl, refl) read (asked_input fit h.bytes cause.asked cause.is)),
-        predict_reached fit h.bytes place limit trail (asked_job words (jobs.Predict fit) read.asked).0 cause,
-      )
-      by (jobs.Test job) read cause = test_limited job h.bytes read place limit trail cause
-      by (jobs.Path job) read cause = path_limited job h.bytes read place limit trail cause
-      by (jobs.Sample job) read cause = (
-        sample_fit job,
-        cause.input.problem,
-        posed (sample_fit job) cause.input (was (sample_fit job) cause.input false h.bytes (jobs.Sample job) (refl, refl) read cause.is),
-        reached (sample_fit job) false (sample_table job) place limit trail (asked_job words (jobs.Sample job) read.asked).ask cause,
-      )
+      by : Lacks words source source' (PivotLimit place limit trail) → IsLimitedAt words source source' place limit trail
+      by (NoFit h) = (h.fit, h.lacks.input.problem, posed h.fit h.lacks.input h.was, reached h.fit h.ranked h.bytes place limit trail h.ask h.lacks)
+      by (NoPredictions h) = (h.fit, h.lacks.asked.input.problem, posed h.fit h.lacks.asked.input h.was, predict_reached h.fit h.bytes place limit trail h.ask h.lacks)
+      by (NoTest h) = test_limited h.job h.bytes h.read place limit trail h.lacks
+      by (NoPath h) = path_limited h.job h.bytes h.read place limit trail h.lacks
+      by (NoVerdict h) = absurd h.cause
 
   -- ---- dependent columns
 
   pub dependence_needed : (combination : List Frac128) → IsHalted words source source' (Refused (Dependent combination)) → IsDependentInput
-  dependence_needed combination h = by h.job h.read h.cause
+  dependence_needed combination h = by (dependence_lacks words source source' combination h)
     where
-      of : (fit : FitJob) (ranked : Bool) (job : Job) → IsFitJob job fit ranked → WereRead words source source' job h.bytes → LacksFit fit ranked (table_bytes job h.bytes) (Refused (Dependent combination)) → IsDependentInput
-      of fit ranked job is_job read cause =
-          (fit, cause.input, inl (was fit cause.input ranked h.bytes job is_job read cause.is), dependent (sample value cause.input.problem) _ cause.cause.dependence)
-
-      by : (job : Job) → WereRead words source source' job h.bytes → engine.HasCause job h.bytes (Refused (Dependent combination)) → IsDependentInput
-      by (jobs.Process fit) read cause = of fit (is_some fit.rank) (jobs.Process fit) (refl, refl) read cause
-      by (jobs.Ranks fit) read cause = of fit true (jobs.Ranks fit) (refl, refl) read cause
-      by (jobs.Certify fit) read cause = of fit (is_some fit.rank) (jobs.Certify fit) (refl, refl) read cause
-      by jobs.Check read cause = absurd cause
-      by (jobs.Predict fit) read cause = (
-        fit,
-        cause.asked.input,
-        inl (was fit cause.asked.input true h.bytes (jobs.Predict fit) (refl, refl) read (asked_input fit h.bytes cause.asked cause.is)),
-        dependent (sample value cause.asked.input.problem) _ cause.cause.dependence,
-      )
-      by (jobs.Test job) read cause =
-          (job.fit, cause.input, inr (job, refl, record { bytes = h.bytes; read = read; is = cause.is }), dependent (sample value cause.input.problem) _ cause.cause.dependence)
-      by (jobs.Path job) read cause = absurd cause.2.cause
-      by (jobs.Sample job) read cause = of (sample_fit job) false (jobs.Sample job) (refl, refl) read cause
-
-  -- ---- a certificate that is too long
-
-  pub length_needed : (n : ℕ) → IsHalted words source source' (Refused (CertTooLong n)) → (fit : FitJob) × (bytes : List ℕ) × WereRead words source source' (jobs.Certify fit) bytes × HasLongCertificate fit bytes n
-  length_needed n h = by h.job h.read h.cause
-    where
-      by : (job : Job) → WereRead words source source' job h.bytes → engine.HasCause job h.bytes (Refused (CertTooLong n))
-          → (fit : FitJob) × (bytes : List ℕ) × WereRead words source source' (jobs.Certify fit) bytes × HasLongCertificate fit bytes n
-      by (jobs.Process fit) read cause = absurd cause.2.cause
-      by (jobs.Ranks fit) read cause = absurd cause.2.cause
-      by (jobs.Certify fit) read cause = (fit, h.bytes, read, cause)
-      by jobs.Check read cause = absurd cause
-      by (jobs.Predict fit) read cause = absurd cause.2.cause
-      by (jobs.Test job) read cause = absurd cause.2.cause
-      by (jobs.Path job) read cause = absurd cause.2.cause
-      by (jobs.Sample job) read cause = absurd cause.2.cause
+      by : Lacks words source source' (Refused (Dependent combination)) → IsDependentInput
+      by (NoFit h) = (h.fit, h.lacks.input, inl h.was, dependent (sample value h.lacks.input.problem) _ h.lacks.cause.dependence)
+      by (NoPredictions h) = (h.fit, h.lacks.asked.input, inl h.was, dependent (sample value h.lacks.asked.input.problem) _ h.lacks.cause.dependence)
+      by (NoTest h) =
+          (h.job.fit, h.lacks.input, inr (h.job, refl, record { bytes = h.bytes; read = h.read; is = h.lacks.is }), dependent (sample value h.lacks.input.problem) _ h.lacks.cause.dependence)
+      by (NoPath h) = absurd h.lacks.cause
+      by (NoVerdict h) = absurd h.cause
 
   -- ---- an overflow
 
   pub overflow_needed : (place : Place) (trail : Trail Frac128) (spill : Spill Frac128) → IsHalted words source source' (Overflow place trail spill) → OverflowsAt place spill
-  overflow_needed places.Check trail spill h = tt
-  overflow_needed places.Process trail spill h = by h.job h.cause
+  overflow_needed place trail spill h = by place (overflow_lacks words source source' place trail spill h)
     where
-      of : (fit : FitJob) (ranked : Bool) (bytes : List ℕ) → LacksFit fit ranked bytes (Overflow places.Process trail spill) → DoesOverflow value most spill
-      of fit ranked bytes k = of_fit value most spill k.input.problem _ _ _ _ trail k.cause
-
-      by : (job : Job) → engine.HasCause job h.bytes (Overflow places.Process trail spill) → DoesOverflow value most spill
-      by (jobs.Process fit) cause = of fit (is_some fit.rank) h.bytes cause
-      by (jobs.Ranks fit) cause = of fit true h.bytes cause
-      by (jobs.Certify fit) cause = of fit (is_some fit.rank) h.bytes cause
-      by jobs.Check cause = absurd cause
-      by (jobs.Predict fit) cause = of_process value most spill cause.asked.input.problem _ _ _ trail cause.cause
-      by (jobs.Test job) cause = of_scored job.fit (restricted_problem job.tested cause.input.problem) trail spill cause.cause
-      by (jobs.Path job) cause = of_process value most spill cause.cause.problem _ _ _ trail cause.cause.cause
-      by (jobs.Sample job) cause = of (sample_fit job) false (sample_table job) cause
-  overflow_needed (places.Interval column tau) trail spill h = by h.job h.cause
-    where
-      of : (fit : FitJob) (ranked : Bool) (bytes : List ℕ) → LacksFit fit ranked bytes (Overflow (places.Interval column tau) trail spill) → DoesOverflow value most spill
-      of fit ranked bytes k =
-          of_interval value most spill k.input.problem column (rational (value tau)) (rational (value k.cause.stopped.0)) fit.limit trail k.cause.stopped.1.cause
-
-      by : (job : Job) → engine.HasCause job h.bytes (Overflow (places.Interval column tau) trail spill) → DoesOverflow value most spill
-      by (jobs.Process fit) cause = of fit (is_some fit.rank) h.bytes cause
-      by (jobs.Ranks fit) cause = of fit true h.bytes cause
-      by (jobs.Certify fit) cause = of fit (is_some fit.rank) h.bytes cause
-      by jobs.Check cause = absurd cause
-      by (jobs.Sample job) cause = of (sample_fit job) false (sample_table job) cause
-      by other cause = absurd cause.cause
-  overflow_needed places.Full trail spill h = by h.job h.cause
-    where
-      by : (job : Job) → engine.HasCause job h.bytes (Overflow places.Full trail spill) → DoesOverflow value most spill
-      by (jobs.Process fit) cause = absurd cause.cause
-      by (jobs.Ranks fit) cause = absurd cause.cause
-      by (jobs.Certify fit) cause = absurd cause.cause
-      by jobs.Check cause = absurd cause
-      by (jobs.Test job) cause = start value most spill cause.input.problem trail cause.cause
-      by (jobs.Predict fit) cause = absurd cause.cause
-      by (jobs.Path job) cause = absurd cause.cause
-      by (jobs.Sample job) cause = absurd cause.cause
-  overflow_needed (places.Predict rec) trail spill h = by h.job h.cause
-    where
-      by : (job : Job) → engine.HasCause job h.bytes (Overflow (places.Predict rec) trail spill) → DoesOverflow value most spill
-      by (jobs.Process fit) cause = absurd cause.cause
-      by (jobs.Ranks fit) cause = absurd cause.cause
-      by (jobs.Certify fit) cause = absurd cause.cause
-      by jobs.Check cause = absurd cause
-      by (jobs.Predict fit) cause = of_row cause.cause.segments cause.cause.row spill cause.cause.operation
-      by (jobs.Test job) cause = absurd cause.cause
-      by (jobs.Path job) cause = absurd cause.cause
-      by (jobs.Sample job) cause = absurd cause.cause
-  overflow_needed places.Path trail spill h = by h.job h.cause
-    where
-      by : (job : Job) → engine.HasCause job h.bytes (Overflow places.Path trail spill) → DoesOverflow value most spill
-      by (jobs.Process fit) cause = absurd cause.cause
-      by (jobs.Ranks fit) cause = absurd cause.cause
-      by (jobs.Certify fit) cause = absurd cause.cause
-      by jobs.Check cause = absurd cause
-      by (jobs.Predict fit) cause = absurd cause.cause
-      by (jobs.Test job) cause = absurd cause.cause
-      by (jobs.Path job) cause = of_first _ spill cause.cause.2
-      by (jobs.Sample job) cause = absurd cause.cause
+      by : (place : Place) → Lacks words source source' (Overflow place trail spill) → OverflowsAt place spill
+      by places.Check lacks = tt
+      by places.Process (NoFit h) = of_fit value most spill h.lacks.input.problem _ _ _ _ trail h.lacks.cause
+      by places.Process (NoPredictions h) = of_process value most spill h.lacks.asked.input.problem _ _ _ trail h.lacks.cause
+      by places.Process (NoTest h) = of_scored h.job.fit (restricted_problem h.job.tested h.lacks.input.problem) trail spill h.lacks.cause
+      by places.Process (NoPath h) = of_process value most spill h.lacks.cause.problem _ _ _ trail h.lacks.cause.cause
+      by (places.Interval column tau) (NoFit h) =
+          of_interval value most spill h.lacks.input.problem column (rational (value tau)) (rational (value h.lacks.cause.stopped.0)) h.fit.limit trail h.lacks.cause.stopped.1.cause
+      by places.Full (NoTest h) = start value most spill h.lacks.input.problem trail h.lacks.cause
+      by (places.Predict rec) (NoPredictions h) = of_row h.lacks.cause.segments h.lacks.cause.row spill h.lacks.cause.operation
+      by places.Path (NoPath h) = of_first _ spill h.lacks.cause.2
+      by place (NoVerdict h) = absurd h.cause
+      by place (NoFit h) = absurd h.lacks.cause
+      by place (NoPredictions h) = absurd h.lacks.cause
+      by place (NoTest h) = absurd h.lacks.cause
+      by place (NoPath h) = absurd h.lacks.cause

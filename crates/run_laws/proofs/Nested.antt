@@ -183,11 +183,5 @@ module _ (square : StatisticIsSquare) (words : List (List ℕ)) (source source' 
     where
       by : (job : Job) → WereRead words source source' job h.bytes → IsRight job h.bytes (reports.Test fit)
           → (job : TestJob) × (bytes : List ℕ) × (input : Input) × WereRead words source source' (jobs.Test job) bytes × IsTested job bytes input × IsRightTest job input fit
-      by (jobs.Process f) read right = absurd right
-      by (jobs.Ranks f) read right = absurd right
-      by (jobs.Certify f) read right = absurd right
-      by jobs.Check read right = absurd right
       by (jobs.Test job) read right = (job, h.bytes, right.0, read, right.1, right_report square job h.bytes right.0 right.1 fit right.2)
-      by (jobs.Predict f) read right = absurd right
-      by (jobs.Path p) read right = absurd right
-      by (jobs.Sample s) read right = absurd right
+      by job read right = absurd right

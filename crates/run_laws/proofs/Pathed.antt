@@ -83,11 +83,7 @@ module _ (words : List (List ℕ)) (first : PathJob) (asked : IsJobOf words (job
       where
         by : {job : PathJob} {bytes : List ℕ} (place : Place) → LacksPathFit job bytes (halts.PivotLimit place limit trail) → IsAtProcess place
         by places.Process h = tt
-        by (places.Interval column tau) h = h.cause
-        by places.Check h = h.cause
-        by places.Full h = h.cause
-        by (places.Predict rec) h = h.cause
-        by places.Path h = h.cause
+        by other h = h.cause
 
     -- and an overflow one of the costs or of the process
     overflow_at : (place : Place) (trail : Trail Frac128) (spill : Spill Frac128) → IsHalted words source source' (halts.Overflow place trail spill) → IsAtPath place
@@ -96,10 +92,7 @@ module _ (words : List (List ℕ)) (first : PathJob) (asked : IsJobOf words (job
         by : {job : PathJob} {bytes : List ℕ} (place : Place) → LacksPathFit job bytes (halts.Overflow place trail spill) → IsAtPath place
         by places.Process h = tt
         by places.Path h = tt
-        by (places.Interval column tau) h = h.cause
-        by places.Check h = h.cause
-        by places.Full h = h.cause
-        by (places.Predict rec) h = h.cause
+        by other h = h.cause
 
     module _ (reaches : (fit : FitJob) (problem : Problem Frac128) → WasPath words source source' fit problem → IsLimitedProblem fit problem) where
       none : (report : Report) → ¬ IsAnswered words source source' report

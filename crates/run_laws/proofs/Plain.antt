@@ -17,19 +17,7 @@ module _ (one : OneFormula) (none : NoFormulaHasFaults) (job : FitJob) (bytes : 
   pub plain_sound : (refusal : Refusal) → ¬ HasPlainCause job bytes (Refused refusal)
   plain_sound refusals.SmoothNotTaken h = input_sound one none job true bytes input is shaped refusals.RankWithPenalty (h.0, h.1, (refl, h.2))
   plain_sound refusals.RankWithPenalty h = h
-  plain_sound refusals.TooLong h = input_sound one none job true bytes input is shaped refusals.TooLong h
-  plain_sound (refusals.Table fault) h = input_sound one none job true bytes input is shaped (refusals.Table fault) h
-  plain_sound (refusals.Formula fault) h = input_sound one none job true bytes input is shaped (refusals.Formula fault) h
-  plain_sound (refusals.Design fault) h = input_sound one none job true bytes input is shaped (refusals.Design fault) h
-  plain_sound (refusals.Penalty fault) h = input_sound one none job true bytes input is shaped (refusals.Penalty fault) h
-  plain_sound (refusals.Program fault) h = input_sound one none job true bytes input is shaped (refusals.Program fault) h
-  plain_sound refusals.NothingToPredict h = input_sound one none job true bytes input is shaped refusals.NothingToPredict h
-  plain_sound (refusals.NoSuchColumn number) h = input_sound one none job true bytes input is shaped (refusals.NoSuchColumn number) h
-  plain_sound refusals.AllTested h = input_sound one none job true bytes input is shaped refusals.AllTested h
-  plain_sound (refusals.TooManyPredictions found) h = input_sound one none job true bytes input is shaped (refusals.TooManyPredictions found) h
-  plain_sound (refusals.Dependent combination) h = input_sound one none job true bytes input is shaped (refusals.Dependent combination) h
-  plain_sound (refusals.CertTooLong n) h = input_sound one none job true bytes input is shaped (refusals.CertTooLong n) h
-  plain_sound (refusals.Certificate fault) h = input_sound one none job true bytes input is shaped (refusals.Certificate fault) h
+  plain_sound other h = input_sound one none job true bytes input is shaped other h
 
 pub no_fault : OneFormula → NoFormulaHasFaults → PlainInputsHaveNoFault
 no_fault one none job bytes input refusal is shaped = plain_sound one none job bytes input is shaped refusal

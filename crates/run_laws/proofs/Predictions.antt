@@ -77,22 +77,12 @@ module _ (one : OneFormula) (none : NoFormulaHasFaults) (job : FitJob) (bytes : 
       (subst (λ (d : Design). HasRecordsCause is.0 is.2.model job.coding d refusal) design by.2)
 
   pub prediction_sound : (refusal : Refusal) → ¬ HasPredictionCause job bytes (Refused refusal)
-  prediction_sound refusals.SmoothNotTaken h = no_plain_fault refusals.SmoothNotTaken h
   prediction_sound refusals.RankWithPenalty h = h
   prediction_sound refusals.NothingToPredict h = not_lacking refusals.NothingToPredict h
-  prediction_sound (refusals.NoSuchColumn number) h = no_plain_fault (refusals.NoSuchColumn number) h
-  prediction_sound refusals.AllTested h = no_plain_fault refusals.AllTested h
   prediction_sound (refusals.TooManyPredictions found) h = not_lacking (refusals.TooManyPredictions found) h
   prediction_sound (refusals.Design fault) (inl h) = no_plain_fault (refusals.Design fault) h
   prediction_sound (refusals.Design fault) (inr h) = not_lacking (refusals.Design fault) h
-  prediction_sound refusals.TooLong h = no_plain_fault refusals.TooLong h
-  prediction_sound (refusals.Table fault) h = no_plain_fault (refusals.Table fault) h
-  prediction_sound (refusals.Formula fault) h = no_plain_fault (refusals.Formula fault) h
-  prediction_sound (refusals.Penalty fault) h = no_plain_fault (refusals.Penalty fault) h
-  prediction_sound (refusals.Program fault) h = no_plain_fault (refusals.Program fault) h
-  prediction_sound (refusals.Dependent combination) h = no_plain_fault (refusals.Dependent combination) h
-  prediction_sound (refusals.CertTooLong n) h = no_plain_fault (refusals.CertTooLong n) h
-  prediction_sound (refusals.Certificate fault) h = no_plain_fault (refusals.Certificate fault) h
+  prediction_sound other h = no_plain_fault other h
 
 pub no_fault : OneFormula → NoFormulaHasFaults → PredictionsHaveNoFault
 no_fault one none job bytes asked refusal is shaped = prediction_sound one none job bytes asked is shaped refusal

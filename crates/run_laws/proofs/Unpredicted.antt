@@ -27,14 +27,8 @@ module _ (law : PredictionsHaveNoFault) (words : List (List ℕ)) (source source
     (faulty : (fit : FitJob) → IsJobOf words (jobs.Predict fit) → (refusal : Refusal) × HasPredictionCause fit bytes (halts.Refused refusal)) where
   -- words that ask for predictions ask for no other job
   alone : (job : Job) → IsJobOf words job → (P : Job → Type 0) → ((fit : FitJob) → P (jobs.Predict fit)) → P job
-  alone (jobs.Process fit) again P p = absurd (cc (sym again ∙ asked))
-  alone (jobs.Ranks fit) again P p = absurd (cc (sym again ∙ asked))
-  alone (jobs.Certify fit) again P p = absurd (cc (sym again ∙ asked))
-  alone jobs.Check again P p = absurd (cc (sym again ∙ asked))
   alone (jobs.Predict fit) again P p = p fit
-  alone (jobs.Test job) again P p = absurd (cc (sym again ∙ asked))
-  alone (jobs.Path job) again P p = absurd (cc (sym again ∙ asked))
-  alone (jobs.Sample job) again P p = absurd (cc (sym again ∙ asked))
+  alone job again P p = absurd (cc (sym again ∙ asked))
 
   -- bytes that were read ask for none within the limits
   no_rows : (fit : FitJob) (other : List ℕ) → WereRead words source source' (jobs.Predict fit) other → (rows : PredictionInput) → IsPrediction fit other rows → IsWellShaped rows.input.problem → ⊥

@@ -20,10 +20,10 @@ returns c =
       test_faults = λ words source source' out out' err err' bytes outcome first asked told faulty run. test_unposed words first asked source source' c.tested_have_no_fault.ensures bytes told faulty out out' err err' outcome run;
       path_faults = λ words source source' out out' err err' bytes outcome first asked told faulty run. path_unposed words first asked source source' c.plain_inputs_have_no_fault.ensures bytes told faulty out out' err err' outcome run;
       checked = λ words source source' out out' err err' bytes cert outcome run none passing. accepted c.same_content.ensures words source source' bytes cert passing out out' err err' outcome run none;
-      limited = λ words source source' out out' err err' outcome first kind asked run reaches. limited words source source' first kind asked c.path_is_askable.ensures.costs reaches out out' err err' outcome run;
+      limited = λ words source source' out out' err err' outcome first kind asked run reaches. limited words source source' first kind asked reaches out out' err err' outcome run;
       test_limited = λ words source source' out out' err err' outcome first asked run reaches. test_limited words first asked source source' out out' err err' outcome run reaches;
       path_limited = λ words source source' out out' err err' outcome first asked run reaches. path_limited words first asked source source' reaches out out' err err' outcome run;
       ample = λ words source source' out out' err err' place limit trail long run. ample c.path_is_askable.ensures.costs words source source' out out' err err' place limit trail long run;
-      dependent = λ words source source' out out' err err' outcome first kind asked run dependent. unfitted words source source' first kind asked c.path_is_askable.ensures.costs dependent out out' err err' outcome run;
+      dependent = λ words source source' out out' err err' outcome first kind asked run dependent. unfitted words source source' first kind asked dependent out out' err err' outcome run;
       test_dependent = λ words source source' out out' err err' outcome first asked run dependent. test_unfitted words first asked source source' out out' err err' outcome run dependent;
     }
