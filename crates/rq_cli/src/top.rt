@@ -145,16 +145,7 @@ fn read_job(alloc: Global, words: &[String]) -> Result<Job, Fault>
 fn reads(job: &Job) -> bool
     ensures { IsTrue result ↔ Reads job.now }
 {
-    match job {
-        Job::Process(_) => true,
-        Job::Ranks(_) => true,
-        Job::Certify(_) => true,
-        Job::Check => true,
-        Job::Test(_) => true,
-        Job::Predict(_) => true,
-        Job::Path(_) => true,
-        Job::Sample(_) => false,
-    }
+    !matches!(job, Job::Sample(_))
 }
 
 // The bytes that a job takes from the source.

@@ -16,10 +16,10 @@ use Rattle.rq_words.specs.Words.{zero, one, is_outside}
 use Rattle.rq_words.specs.declared.job.Job.{Job}
 use Rattle.rq_words.specs.declared.job.Job.TheVariants.{Process, Ranks, Certify, Check, Test, Predict, Path, Sample}
 use Rattle.rq_words.specs.declared.job.RankAsk.{RankAsk}
-use Rattle.rq_words.proofs.Orders.{process_range, ranks_range, certify_range, path_range, predict_range, test_range}
+use Rattle.rq_words.proofs.Orders.{path_range_of, range_of, words_in_order, words_over_all}
 use Rattle.rq_words.proofs.RankRequests.{IsSoundOf, test_unranked, words_sound}
 use Rattle.rq_words.proofs.Samples.{words_sample}
-use Rattle.rq_words.proofs.ShortWords.{process_formula, ranks_formula, certify_formula, path_formula, predict_formula, test_formula}
+use Rattle.rq_words.proofs.ShortWords.{request_formula}
 use Rattle.rq_words.proofs.TestedColumns.{test_ascending}
 use Rattle.rq_engine.specs.Asks.{IsFitAsk, IsInner, IsPathAsk, IsRankAskOf, IsTestAsk, IsUnitAsk}
 use Rattle.rq_engine.specs.Jobs.{IsJobOf, sample_fit}
@@ -58,33 +58,33 @@ IsAskedJob (Sample sample) = IsSampleAsk sample
 pub asked_job : (words : List (List ℕ)) (job : Job) → IsJobOf words job → IsAskedJob job
 asked_job words (Process fit) asked =
     let f = fit_request fit in
-    let range = process_range words f asked in
+    let range = range_of f.lo f.hi (words_in_order words (request.Process f) asked) in
     let rank = rank_by fit.rank (words_sound (request.Process f) f refl words asked) in
-    (record { low = range.0; ordered = range.1; high = range.2; rank = rank }, process_formula words f asked)
+    (record { low = range.0; ordered = range.1; high = range.2; rank = rank }, request_formula words (request.Process f) asked)
 asked_job words (Ranks fit) asked =
     let f = fit_request fit in
-    let range = ranks_range words f asked in
+    let range = words_over_all words (request.Ranks f) asked in
     let rank = rank_by fit.rank (words_sound (request.Ranks f) f refl words asked) in
-    (record { low = range.0; high = range.1; rank = rank }, ranks_formula words f asked)
+    (record { low = range.0; high = range.1; rank = rank }, request_formula words (request.Ranks f) asked)
 asked_job words (Certify fit) asked =
     let f = fit_request fit in
-    let range = certify_range words f asked in
+    let range = range_of f.lo f.hi (words_in_order words (request.Certify f) asked) in
     let rank = rank_by fit.rank (words_sound (request.Certify f) f refl words asked) in
-    (record { low = range.0; ordered = range.1; high = range.2; rank = rank }, certify_formula words f asked)
+    (record { low = range.0; ordered = range.1; high = range.2; rank = rank }, request_formula words (request.Certify f) asked)
 asked_job words Check asked = tt
 asked_job words (Test job) asked =
     let t = test_request job in
-    let range = test_range words t asked in
-    (record { unit = record { low = range.0; high = range.1; rank = none_by job.fit.rank (test_unranked words t asked) }; ascending = test_ascending words t asked }, test_formula words t asked)
+    let range = words_over_all words (request.Test t) asked in
+    (record { unit = record { low = range.0; high = range.1; rank = none_by job.fit.rank (test_unranked words t asked) }; ascending = test_ascending words t asked }, request_formula words (request.Test t) asked)
 asked_job words (Predict fit) asked =
     let f = fit_request fit in
-    let range = predict_range words f asked in
+    let range = range_of f.lo f.hi (words_in_order words (request.Predict f) asked) in
     let rank = rank_by fit.rank (words_sound (request.Predict f) f refl words asked) in
-    (record { low = range.0; ordered = range.1; high = range.2; rank = rank }, predict_formula words f asked)
+    (record { low = range.0; ordered = range.1; high = range.2; rank = rank }, request_formula words (request.Predict f) asked)
 asked_job words (Path job) asked =
     let p = path_request job in
-    let range = path_range words p asked in
-    (record { low = range.low; ordered = range.ordered; tau_low = range.tau_low; tau_high = range.tau_high }, path_formula words p asked)
+    let range = path_range_of p (words_in_order words (request.Path p) asked) in
+    (record { low = range.low; ordered = range.ordered; tau_low = range.tau_low; tau_high = range.tau_high }, request_formula words (request.Path p) asked)
 asked_job words (Sample sample) asked =
     let sound = words_sample (sample_request sample) words asked in
     let ask : IsFitAsk (sample_fit sample) = record { low = sound.range.0; ordered = sound.range.1; high = sound.range.2; rank = tt } in

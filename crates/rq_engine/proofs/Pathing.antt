@@ -28,8 +28,8 @@ use Rattle.rq_input.specs.PlainRows.{HasIntercept}
 use Rattle.rq_input.specs.Rows.{HasRows}
 use Rattle.rq_input.specs.declared.plain.PlainInput.{PlainInput}
 use Rattle.rq_engine.specs.Asks.{IsPathAsk}
-use Rattle.rq_engine.specs.Halts.{path_halt, stop_halt}
-use Rattle.rq_engine.specs.Paths.{HasPathCause, IsPathFitOf, IsPathProblem, first_penalised}
+use Rattle.rq_engine.specs.Halts.{stop_halt}
+use Rattle.rq_engine.specs.Paths.{HasPathCause, IsPathFitOf, IsPathProblem, first_penalised, path_halt}
 use Rattle.rq_engine.specs.Stops.{most}
 use Rattle.rq_program.specs.declared.fault.ProgramFault.TheVariants as programs
 use Rattle.report_text.specs.declared.report.Refusal.TheVariants.{Dependent}

@@ -5,16 +5,12 @@ use Rattle.loss_model.specs.declared.spill.Short.{Short}
 use Rattle.loss_model.specs.declared.spill.Short.TheVariants as shorts
 use Rattle.loss_model.specs.declared.stop.Stop.{Stop}
 use Rattle.loss_model.specs.declared.stop.Stop.TheVariants as stops
-use Rattle.lambda_path.specs.declared.fault.PathFault.{PathFault}
-use Rattle.lambda_path.specs.declared.fault.PathFault.TheVariants as faults
-use Rattle.rq_program.specs.declared.fault.ProgramFault.TheVariants.{TooManyRows}
-use Rattle.report_text.specs.declared.report.Refusal.TheVariants.{Dependent, Program}
+use Rattle.report_text.specs.declared.report.Refusal.TheVariants.{Dependent}
 use Rattle.report_text.specs.declared.report.Place.{Place}
-use Rattle.report_text.specs.declared.report.Place.TheVariants.{Interval, Path}
+use Rattle.report_text.specs.declared.report.Place.TheVariants.{Interval}
 use Rattle.report_text.specs.declared.report.Halt.{Halt}
 use Rattle.report_text.specs.declared.report.Halt.TheVariants.{Refused, OutOfMemory, PivotLimit, Overflow}
 use Rattle.rank_inversion.specs.declared.asks.IntervalStop.{IntervalStop}
-use Rattle.rq_engine.specs.Stops.{no_trail}
 
 -- the halt of a stop of the solver at a place
 abbrev pub stop_halt : Place → Stop Frac128 → Halt
@@ -22,12 +18,6 @@ stop_halt place stops.OutOfMemory = OutOfMemory
 stop_halt place (stops.PivotLimit limit trail) = PivotLimit place limit trail
 stop_halt place (stops.Overflow trail spill) = Overflow place trail spill
 stop_halt place (stops.Dependent combination) = Refused (Dependent combination)
-
--- that of a path problem that can't be made
-abbrev pub path_halt : PathFault → Halt
-path_halt faults.OutOfMemory = OutOfMemory
-path_halt faults.TooManyRows = Refused (Program TooManyRows)
-path_halt (faults.Overflow spill) = Overflow Path no_trail spill
 
 -- that of an interval, at its column and its quantile
 abbrev pub interval_halt : IntervalStop Frac128 → Halt

@@ -1,13 +1,11 @@
 //! The halts of the solver.
 ghost use Rattle.std.specs.Prelude.{◌≡◌};
-ghost use Rattle.rq_engine.specs.Halts.{interval_halt as interval_halt_of, path_halt as path_halt_of, short_halt as short_halt_of, stop_halt as stop_halt_of};
+ghost use Rattle.rq_engine.specs.Halts.{interval_halt as interval_halt_of, short_halt as short_halt_of, stop_halt as stop_halt_of};
 
 use frac_core::{Frac128, List};
-use lambda_path::PathFault;
 use loss_model::{Short, Stop, Trail};
 use rank_inversion::IntervalStop;
 use report_text::{Halt, Place, Refusal};
-use rq_program::ProgramFault;
 use std::alloc::Global;
 
 /// The halt of a stop at a place.
@@ -27,26 +25,6 @@ pub(crate) fn stop_halt(place: Place, stop: Stop<Frac128>) -> Halt
             spill,
         },
         Stop::Dependent { combination } => Halt::Refused(Refusal::Dependent { combination }),
-    }
-}
-
-/// The halt of a path problem that can't be made. Its trail is empty, and takes no memory.
-pub(crate) fn path_halt(alloc: Global, fault: PathFault) -> Halt
-    ensures { result ≡ path_halt_of fault }
-{
-    match fault {
-        PathFault::OutOfMemory => Halt::OutOfMemory,
-        PathFault::TooManyRows => Halt::Refused(Refusal::Program(ProgramFault::TooManyRows)),
-        PathFault::Overflow(spill) => Halt::Overflow {
-            place: Place::Path,
-            trail: Trail {
-                start: List::new(alloc),
-                steps: List::new(alloc),
-                rise: List::new(alloc),
-                fall: List::new(alloc),
-            },
-            spill,
-        },
     }
 }
 

@@ -5,17 +5,18 @@ ghost use Rattle.report_text.specs.declared.report.Report.TheVariants as reports
 ghost use Rattle.rq_input.specs.Rows.{HasRows};
 ghost use Rattle.rq_input.specs.PlainRows.{HasIntercept};
 ghost use Rattle.rq_engine.specs.Asks.{IsPathAsk};
-ghost use Rattle.rq_engine.specs.Paths.{HasPathCause, IsPathFitOf, first_penalised as first_penalised_of};
+ghost use Rattle.rq_engine.specs.Paths.{HasPathCause, IsPathFitOf, first_penalised as first_penalised_of, path_halt as path_halt_of};
 ghost use Rattle.rq_engine.specs.Answers.{HasPathFitCause, IsPathFitOfBytes};
 
-use crate::halt::{path_halt, stop_halt};
+use crate::halt::stop_halt;
 use design_matrix::Design;
-use frac_core::Frac128;
+use frac_core::{Frac128, List};
 use lambda_path::laws::path_is_askable;
-use lambda_path::path_problem;
-use loss_model::{Problem, Process};
-use report_text::{Halt, PathFit, Place};
+use lambda_path::{PathFault, path_problem};
+use loss_model::{Problem, Process, Trail};
+use report_text::{Halt, PathFit, Place, Refusal};
 use rq_input::{PlainInput, read_plain};
+use rq_program::ProgramFault;
 use rq_words::PathJob;
 use std::alloc::Global;
 use tau_process::process;
@@ -25,6 +26,26 @@ fn first_penalised(intercept: bool) -> u32
     ensures { result ≡ first_penalised_of intercept }
 {
     if intercept { 1 } else { 0 }
+}
+
+// The halt of a path problem that can't be made. Its trail is empty, and takes no memory.
+fn path_halt(alloc: Global, fault: PathFault) -> Halt
+    ensures { result ≡ path_halt_of fault }
+{
+    match fault {
+        PathFault::OutOfMemory => Halt::OutOfMemory,
+        PathFault::TooManyRows => Halt::Refused(Refusal::Program(ProgramFault::TooManyRows)),
+        PathFault::Overflow(spill) => Halt::Overflow {
+            place: Place::Path,
+            trail: Trail {
+                start: List::new(alloc),
+                steps: List::new(alloc),
+                rise: List::new(alloc),
+                fall: List::new(alloc),
+            },
+            spill,
+        },
+    }
 }
 
 // The path with what is told of the design. It takes no memory.

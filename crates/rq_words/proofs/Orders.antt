@@ -4,9 +4,9 @@ use Rattle.std.proofs.lemmas.Bool.{and_parts}
 use Rattle.clap.specs.Words.{Row, Text}
 use Rattle.rational_laws.specs.Rational.{ℚ, le_ℚ, ◌≤ℚ◌}
 use Rattle.contrasts.specs.declared.Coding.{Coding}
-use Rattle.rq_words.specs.Requests.{FitRequest, OptionNumbers, PathRequest, Request, TestRequest}
+use Rattle.rq_words.specs.Requests.{OptionNumbers, PathRequest, Request}
 use Rattle.rq_words.specs.Requests as request
-use Rattle.rq_words.specs.Words.{zero, one, is_in_order, is_path_range, has_range, fault_of, request_for, words_of}
+use Rattle.rq_words.specs.Words.{zero, one, is_in_order, is_lambda_range, has_range, fault_of, request_for, words_of}
 use Rattle.rq_words.specs.declared.command.Kind.{Kind}
 use Rattle.rq_words.specs.declared.command.Kind.TheVariants as kind
 use Rattle.rq_words.specs.declared.job.WordFault.{WordFault}
@@ -22,12 +22,12 @@ in_order kind n h = by (has_range kind n) _ h
     by false rest h = absurd (cc h)
 
 -- the range of a request that has one of its own is in order
-abbrev IsOrdered : Request → Type 0
+abbrev pub IsOrdered : Request → Type 0
 IsOrdered (request.Process f) = is_in_order f.lo f.hi ≡ true
 IsOrdered (request.Certify f) = is_in_order f.lo f.hi ≡ true
 IsOrdered (request.Sample s) = is_in_order s.lo s.hi ≡ true
 IsOrdered (request.Predict f) = is_in_order f.lo f.hi ≡ true
-IsOrdered (request.Path p) = is_path_range p.tau p.fit.lo p.fit.hi ≡ true
+IsOrdered (request.Path p) = is_lambda_range p.tau p.fit.lo p.fit.hi ≡ true
 IsOrdered other = Unit {0}
 
 request_in_order : (kind : Kind) (found : List Row) (n : OptionNumbers) (chosen : Coding) → has_range kind n ≡ true → IsOrdered (request_for kind found n chosen)
@@ -41,7 +41,7 @@ words_in_order words r h =
     let a = requested words r h in
     subst IsOrdered a.is (request_in_order a.kind a.found a.numbers a.chosen (in_order a.kind a.numbers a.sound))
 
-abbrev IsRange : ℚ → ℚ → Type 0
+abbrev pub IsRange : ℚ → ℚ → Type 0
 IsRange lo hi = (zero ≤ℚ lo) × (lo ≤ℚ hi) × (hi ≤ℚ one)
 
 pub range_of : (lo hi : ℚ) → is_in_order lo hi ≡ true → IsRange lo hi
@@ -50,18 +50,6 @@ range_of lo hi order =
     let within = and_parts (le_ℚ zero lo) (le_ℚ lo hi) high.0 in
     (record { le = within.0 }, record { le = within.1 }, record { le = high.1 })
 
--- the range of a process that the words ask for
-pub process_range : (words : List Text) (f : FitRequest) → words_of words ≡ Ok (request.Process f) → (zero ≤ℚ f.lo) × (f.lo ≤ℚ f.hi) × (f.hi ≤ℚ one)
-process_range words f h = range_of f.lo f.hi (words_in_order words (request.Process f) h)
-
--- and that of a certificate
-pub certify_range : (words : List Text) (f : FitRequest) → words_of words ≡ Ok (request.Certify f) → (zero ≤ℚ f.lo) × (f.lo ≤ℚ f.hi) × (f.hi ≤ℚ one)
-certify_range words f h = range_of f.lo f.hi (words_in_order words (request.Certify f) h)
-
--- and that of predictions
-pub predict_range : (words : List Text) (f : FitRequest) → words_of words ≡ Ok (request.Predict f) → (zero ≤ℚ f.lo) × (f.lo ≤ℚ f.hi) × (f.hi ≤ℚ one)
-predict_range words f h = range_of f.lo f.hi (words_in_order words (request.Predict f) h)
-
 -- the range of lambda of a path lies above 0 and in order, and its quantile in 0 to 1
 pub record IsPathRange (p : PathRequest) : Type 0 where
   pub tau_low : zero ≤ℚ p.tau
@@ -69,8 +57,8 @@ pub record IsPathRange (p : PathRequest) : Type 0 where
   pub low : ¬ (p.fit.lo ≤ℚ zero)
   pub ordered : p.fit.lo ≤ℚ p.fit.hi
 
-path_by : (p : PathRequest) → is_path_range p.tau p.fit.lo p.fit.hi ≡ true → IsPathRange p
-path_by p h =
+pub path_range_of : (p : PathRequest) → is_lambda_range p.tau p.fit.lo p.fit.hi ≡ true → IsPathRange p
+path_range_of p h =
     let ordered = and_parts (le_ℚ zero p.tau && le_ℚ p.tau one && not (le_ℚ p.fit.lo zero)) (le_ℚ p.fit.lo p.fit.hi) h in
     let low = and_parts (le_ℚ zero p.tau && le_ℚ p.tau one) (not (le_ℚ p.fit.lo zero)) ordered.0 in
     let tau = and_parts (le_ℚ zero p.tau) (le_ℚ p.tau one) low.0 in
@@ -80,12 +68,8 @@ path_by p h =
     denied true h k = absurd (cc h)
     denied false h k = absurd (cc k)
 
--- so it is of a path that the words ask for
-pub path_range : (words : List Text) (p : PathRequest) → words_of words ≡ Ok (request.Path p) → IsPathRange p
-path_range words p h = path_by p (words_in_order words (request.Path p) h)
-
 -- the range of ranks is 0 to 1, and so is that of a test
-abbrev IsOverAll : Request → Type 0
+abbrev pub IsOverAll : Request → Type 0
 IsOverAll (request.Ranks f) = (zero ≡ f.lo) × (one ≡ f.hi)
 IsOverAll (request.Test t) = (zero ≡ t.fit.lo) × (one ≡ t.fit.hi)
 IsOverAll _ = Unit {0}
@@ -95,15 +79,7 @@ request_over_all kind.Ranks found n chosen = (refl, refl)
 request_over_all kind.Test found n chosen = (refl, refl)
 request_over_all other found n chosen = tt
 
-words_over_all : (words : List Text) (r : Request) → words_of words ≡ Ok r → IsOverAll r
+pub words_over_all : (words : List Text) (r : Request) → words_of words ≡ Ok r → IsOverAll r
 words_over_all words r h =
     let a = requested words r h in
     subst IsOverAll a.is (request_over_all a.kind a.found a.numbers a.chosen)
-
--- the range of ranks that the words ask for
-pub ranks_range : (words : List Text) (f : FitRequest) → words_of words ≡ Ok (request.Ranks f) → (zero ≡ f.lo) × (one ≡ f.hi)
-ranks_range words f h = words_over_all words (request.Ranks f) h
-
--- and that of a test
-pub test_range : (words : List Text) (t : TestRequest) → words_of words ≡ Ok (request.Test t) → (zero ≡ t.fit.lo) × (one ≡ t.fit.hi)
-test_range words t h = words_over_all words (request.Test t) h

@@ -19,7 +19,7 @@ use Rattle.clap.specs.declared.parser.matches.ValueSource.TheVariants.{CommandLi
 use Rattle.clap.specs.declared.builder.value_parser.Reading.{Reading}
 use Rattle.contrasts.specs.declared.Coding.{Coding}
 use Rattle.rq_words.specs.Commands.{command_of, options_of, read_by, some_if_none}
-use Rattle.rq_words.specs.Requests.{FitRequest, OptionNumbers, PathRequest, Request, TestRequest}
+use Rattle.rq_words.specs.Requests.{OptionNumbers, Request}
 use Rattle.rq_words.specs.Requests as request
 use Rattle.rq_words.specs.Words.{is_long, request_for, text_or_empty, words_of}
 use Rattle.rq_words.specs.declared.command.Kind.{Kind}
@@ -323,17 +323,16 @@ unfolding read_by
 matched app words found h = taken (kinds_of app words) (matches_of app words) found h
 
 -- the formula that a request has, if it is of a fit of a table
-abbrev formula_in : Request → Text
+abbrev pub formula_in : Request → Text
 formula_in (request.Process f) = f.formula
 formula_in (request.Ranks f) = f.formula
 formula_in (request.Certify f) = f.formula
-formula_in request.Check = []
-formula_in (request.Sample s) = []
 formula_in (request.Test t) = t.fit.formula
 formula_in (request.Predict f) = f.formula
 formula_in (request.Path p) = p.fit.formula
+formula_in _ = []
 
-abbrev HasShortFormula : Request → Type 0
+abbrev pub HasShortFormula : Request → Type 0
 HasShortFormula r = IsShort (2 ^ 31) (formula_in r)
 
 request_short : (kind : Kind) (found : List Row) (n : OptionNumbers) (chosen : Coding) → IsShort (2 ^ 31) (text_or_empty (first_of (codes "formula") found))
@@ -343,7 +342,7 @@ request_short kind.Sample found n chosen h = lit< tt
 request_short other found n chosen h = h
 
 -- the formula that words have is shorter than 2^31 bytes
-request_formula : (words : List Text) (r : Request) → words_of words ≡ Ok r → HasShortFormula r
+pub request_formula : (words : List Text) (r : Request) → words_of words ≡ Ok r → HasShortFormula r
 request_formula words r h =
     let a = requested words r h in
     let app = command_of (options_of a.kind) in
@@ -351,27 +350,3 @@ request_formula words r h =
     found_short (2 ^ 31) (built app).top.rules (names_of (built app)) (drop 1 words) (options a.kind) (short_words (drop 1 words) a.short) in
     let formula = first_short (2 ^ 31) (codes "formula") a.found (subst (λ (rows : List Row). Rows (2 ^ 31) rows) (matched app words a.found a.read) rows) in
     subst HasShortFormula a.is (request_short a.kind a.found a.numbers a.chosen (text_short (2 ^ 31) (first_of (codes "formula") a.found) (lit< tt) formula))
-
--- so is that of a process
-pub process_formula : (words : List Text) (f : FitRequest) → words_of words ≡ Ok (request.Process f) → length f.formula < 2 ^ 31
-process_formula words f h = request_formula words (request.Process f) h
-
--- and that of ranks
-pub ranks_formula : (words : List Text) (f : FitRequest) → words_of words ≡ Ok (request.Ranks f) → length f.formula < 2 ^ 31
-ranks_formula words f h = request_formula words (request.Ranks f) h
-
--- and that of a certificate
-pub certify_formula : (words : List Text) (f : FitRequest) → words_of words ≡ Ok (request.Certify f) → length f.formula < 2 ^ 31
-certify_formula words f h = request_formula words (request.Certify f) h
-
--- and that of a test
-pub test_formula : (words : List Text) (t : TestRequest) → words_of words ≡ Ok (request.Test t) → length t.fit.formula < 2 ^ 31
-test_formula words t h = request_formula words (request.Test t) h
-
--- and that of predictions
-pub predict_formula : (words : List Text) (f : FitRequest) → words_of words ≡ Ok (request.Predict f) → length f.formula < 2 ^ 31
-predict_formula words f h = request_formula words (request.Predict f) h
-
--- and that of a path
-pub path_formula : (words : List Text) (p : PathRequest) → words_of words ≡ Ok (request.Path p) → length p.fit.formula < 2 ^ 31
-path_formula words p h = request_formula words (request.Path p) h

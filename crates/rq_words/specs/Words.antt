@@ -122,17 +122,17 @@ abbrev pub is_in_order : ℚ → ℚ → Bool
 is_in_order lo hi = le_ℚ zero lo && le_ℚ lo hi && le_ℚ hi one
 
 -- tau lies in 0 to 1, 0 is below lo, and lo at most hi
-abbrev pub is_path_range : ℚ → ℚ → ℚ → Bool
-is_path_range tau lo hi = le_ℚ zero tau && le_ℚ tau one && not (le_ℚ lo zero) && le_ℚ lo hi
+abbrev pub is_lambda_range : ℚ → ℚ → ℚ → Bool
+is_lambda_range tau lo hi = le_ℚ zero tau && le_ℚ tau one && not (le_ℚ lo zero) && le_ℚ lo hi
 
--- the job is a path, whose range is one of lambda
-abbrev pub is_path : Kind → Bool
-is_path kind.Path = true
-is_path _ = false
+-- the range of the job is one of lambda, as a path's is
+abbrev pub is_over_lambda : Kind → Bool
+is_over_lambda kind.Path = true
+is_over_lambda _ = false
 
 -- the range is in order, as the job wants it
 abbrev pub has_range : Kind → OptionNumbers → Bool
-has_range kind n = if is_path kind then is_path_range n.tau n.lo n.hi else is_in_order n.lo n.hi
+has_range kind n = if is_over_lambda kind then is_lambda_range n.tau n.lo n.hi else is_in_order n.lo n.hi
 
 -- both are there, or neither
 abbrev pub are_alike : Bool → Bool → Bool

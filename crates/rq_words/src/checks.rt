@@ -4,7 +4,7 @@ ghost use Rattle.std.specs.List.{list_any};
 ghost use Rattle.rational_laws.specs.Rational.{le_ℚ};
 ghost use Rattle.frac_core.specs.Values.{exact};
 ghost use Rattle.rq_words.specs.Requests.{option_numbers};
-ghost use Rattle.rq_words.specs.Words.{ascends, fault_of, has_range as has_range_of, is_in_order, is_outside, is_path_range as is_path_range_of};
+ghost use Rattle.rq_words.specs.Words.{ascends, fault_of, has_range as has_range_of, is_in_order, is_outside, is_lambda_range as is_lambda_range_of};
 
 use crate::WordFault;
 use crate::command::Kind;
@@ -26,8 +26,8 @@ fn is_range(lo: Frac128, hi: Frac128) -> bool
 }
 
 // Whether `0 <= tau <= 1` and `0 < lo <= hi`.
-fn is_path_range(tau: Frac128, lo: Frac128, hi: Frac128) -> bool
-    ensures { result ≡ is_path_range_of (exact tau) (exact lo) (exact hi) }
+fn is_lambda_range(tau: Frac128, lo: Frac128, hi: Frac128) -> bool
+    ensures { result ≡ is_lambda_range_of (exact tau) (exact lo) (exact hi) }
 {
     is_at_most(Frac128::zero(), tau)
         && is_at_most(tau, Frac128::one())
@@ -67,8 +67,8 @@ impl Numbers {
     fn has_range(&self, kind: Kind) -> bool
         ensures { result ≡ has_range_of kind (option_numbers self.now) }
     {
-        if kind.is_path() {
-            is_path_range(self.tau, self.lo, self.hi)
+        if kind.is_over_lambda() {
+            is_lambda_range(self.tau, self.lo, self.hi)
         } else {
             is_range(self.lo, self.hi)
         }

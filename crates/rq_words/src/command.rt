@@ -2,7 +2,7 @@
 ghost use Rattle.std.specs.Prelude.{◌≡◌, ◌⊎◌, Some, None, [], IfOk, MatchResult, codes, false, map, string_bytes};
 ghost use Rattle.clap.specs.Words.{app_of, rows_of, found_of, rule_of};
 ghost use Rattle.rq_words.specs.Commands.{option_rule, command_of, kind_of, options_of, read_by, with_rules};
-ghost use Rattle.rq_words.specs.Words.{is_path};
+ghost use Rattle.rq_words.specs.Words.{is_over_lambda};
 
 use clap::{Arg, ArgAction, Command};
 use std::alloc::{AllocError, Global};
@@ -39,9 +39,9 @@ impl Kind {
         }
     }
 
-    /// Whether the job is a path, whose range is one of lambda.
-    pub fn is_path(self) -> bool
-        ensures { result ≡ is_path self }
+    /// Whether the range of the job is one of lambda, as a path's is.
+    pub fn is_over_lambda(self) -> bool
+        ensures { result ≡ is_over_lambda self }
     {
         matches!(self, Kind::Path)
     }

@@ -1,8 +1,8 @@
 //! The job that a command's options ask for.
 ghost use Rattle.std.specs.Prelude.{◌≡◌, ◌⊎◌, Err, IfOk, codes, map, option_map};
 ghost use Rattle.std.specs.Result.{result_map_both};
-ghost use Rattle.rq_words.specs.Requests.{fit_request, option_numbers, path_request, request_or_fault, sample_request, test_request};
-ghost use Rattle.rq_words.specs.Words.{checked, coding, column_of, fit, option, path, sample, test};
+ghost use Rattle.rq_words.specs.Requests.{fit_request, option_numbers, path_request, request_of, request_or_fault, sample_request, test_request};
+ghost use Rattle.rq_words.specs.Words.{checked, coding, column_of, fit, option, path, request_for, sample, test};
 
 use crate::command::Kind;
 use crate::numbers::Numbers;
@@ -128,6 +128,28 @@ fn sample_of(numbers: &Numbers) -> SampleJob
     }
 }
 
+fn made_of(
+    alloc: Global,
+    kind: Kind,
+    options: &Options,
+    numbers: Numbers,
+    coding: Coding,
+) -> Result<Job, OutOfMemory>
+    ensures { IfOk result (λ job.
+        request_of job ≡ request_for kind options.now (option_numbers numbers) coding) }
+{
+    match kind {
+        Kind::Process => fit_of(alloc, options, numbers, coding).map(Job::Process),
+        Kind::Ranks => fit_of(alloc, options, numbers.over_all(), coding).map(Job::Ranks),
+        Kind::Certify => fit_of(alloc, options, numbers, coding).map(Job::Certify),
+        Kind::Check => Ok(Job::Check),
+        Kind::Sample => Ok(Job::Sample(sample_of(&numbers))),
+        Kind::Test => test_of(alloc, options, numbers, coding).map(Job::Test),
+        Kind::Predict => fit_of(alloc, options, numbers.unranked(), coding).map(Job::Predict),
+        Kind::Path => path_of(alloc, options, numbers, coding).map(Job::Path),
+    }
+}
+
 /// The job that a command's options ask for, or the first fault of the checks.
 #[tactic(auto, unfolding(crate::specs::Words::checked))]
 pub(crate) fn job_of(alloc: Global, kind: Kind, options: &Options) -> Result<Job, WordFault>
@@ -139,17 +161,7 @@ pub(crate) fn job_of(alloc: Global, kind: Kind, options: &Options) -> Result<Job
     if let Some(fault) = numbers.fault(kind) {
         return Err(fault);
     }
-    let made = match kind {
-        Kind::Check => return Ok(Job::Check),
-        Kind::Sample => return Ok(Job::Sample(sample_of(&numbers))),
-        Kind::Process => fit_of(alloc, options, numbers, coding).map(Job::Process),
-        Kind::Ranks => fit_of(alloc, options, numbers.over_all(), coding).map(Job::Ranks),
-        Kind::Certify => fit_of(alloc, options, numbers, coding).map(Job::Certify),
-        Kind::Test => test_of(alloc, options, numbers, coding).map(Job::Test),
-        Kind::Predict => fit_of(alloc, options, numbers.unranked(), coding).map(Job::Predict),
-        Kind::Path => path_of(alloc, options, numbers, coding).map(Job::Path),
-    };
-    match made {
+    match made_of(alloc, kind, options, numbers, coding) {
         Ok(job) => Ok(job),
         Err(OutOfMemory) => Err(WordFault::OutOfMemory),
     }
