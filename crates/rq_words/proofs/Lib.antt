@@ -3,6 +3,7 @@ pub mod Counts
 pub mod Pieces
 pub mod ItemTests
 pub mod Requested
+pub mod Parts
 pub mod Orders
 pub mod ShortWords
 pub mod RankRequests

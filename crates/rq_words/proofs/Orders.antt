@@ -12,6 +12,7 @@ use Rattle.rq_words.specs.declared.command.Kind.TheVariants as kind
 use Rattle.rq_words.specs.declared.job.WordFault.{WordFault}
 use Rattle.rq_words.specs.declared.job.WordFault.TheVariants.{BadRange}
 use Rattle.rq_words.proofs.Requested.{requested}
+use Rattle.rq_words.proofs.Parts.{IsOrdered, IsOverAll}
 
 in_order : (kind : Kind) (n : OptionNumbers) → fault_of kind n ≡ None → has_range kind n ≡ true
 unfolding fault_of
@@ -20,15 +21,6 @@ in_order kind n h = by (has_range kind n) _ h
     by : (b : Bool) (rest : Option WordFault) → (if not b then Some BadRange else rest) ≡ None → b ≡ true
     by true rest h = refl
     by false rest h = absurd (cc h)
-
--- the range of a request that has one of its own is in order
-abbrev pub IsOrdered : Request → Type 0
-IsOrdered (request.Process f) = is_in_order f.lo f.hi ≡ true
-IsOrdered (request.Certify f) = is_in_order f.lo f.hi ≡ true
-IsOrdered (request.Sample s) = is_in_order s.lo s.hi ≡ true
-IsOrdered (request.Predict f) = is_in_order f.lo f.hi ≡ true
-IsOrdered (request.Path p) = is_lambda_range p.tau p.fit.lo p.fit.hi ≡ true
-IsOrdered other = Unit {0}
 
 request_in_order : (kind : Kind) (found : List Row) (n : OptionNumbers) (chosen : Coding) → has_range kind n ≡ true → IsOrdered (request_for kind found n chosen)
 request_in_order kind.Ranks found n chosen h = tt
@@ -67,12 +59,6 @@ path_range_of p h =
     denied : (b : Bool) → not b ≡ true → b ≡ true → ⊥
     denied true h k = absurd (cc h)
     denied false h k = absurd (cc k)
-
--- the range of ranks is 0 to 1, and so is that of a test
-abbrev pub IsOverAll : Request → Type 0
-IsOverAll (request.Ranks f) = (zero ≡ f.lo) × (one ≡ f.hi)
-IsOverAll (request.Test t) = (zero ≡ t.fit.lo) × (one ≡ t.fit.hi)
-IsOverAll _ = Unit {0}
 
 request_over_all : (kind : Kind) (found : List Row) (n : OptionNumbers) (chosen : Coding) → IsOverAll (request_for kind found n chosen)
 request_over_all kind.Ranks found n chosen = (refl, refl)

@@ -14,6 +14,7 @@ use Rattle.rq_words.specs.declared.command.Kind.TheVariants as kind
 use Rattle.rq_words.specs.declared.job.WordFault.{WordFault}
 use Rattle.rq_words.specs.declared.job.WordFault.TheVariants.{BadRange, BadTauForRank, NegativeLimit, NotAscending, RankHalf}
 use Rattle.rq_words.proofs.Requested.{requested}
+use Rattle.rq_words.proofs.Parts.{IsFitOf, IsUnranked}
 
 -- a test that finds no fault fails, and so do those behind it
 untold : (b : Bool) (fault : WordFault) (rest : Option WordFault) → (if b then Some fault else rest) ≡ None → (b ≡ false) × (rest ≡ None)
@@ -60,14 +61,6 @@ sound_of : (kind : Kind) (n : OptionNumbers) → fault_of kind n ≡ None → (o
 sound_of kind n h None e = tt
 sound_of kind n h (Some r) e = let sound = are_sound kind n h in sound_by n.crit n.taus sound.taus sound.crit r e
 
--- the fit that a job asks for: of a process, of ranks, of a certificate or of predictions
-abbrev pub IsFitOf : Request → FitRequest → Type 0
-IsFitOf (request.Process f) g = f ≡ g
-IsFitOf (request.Ranks f) g = f ≡ g
-IsFitOf (request.Certify f) g = f ≡ g
-IsFitOf (request.Predict f) g = f ≡ g
-IsFitOf _ g = ⊥
-
 abbrev rank_in : FitRequest → Option RankRequest
 rank_in f = f.rank
 
@@ -85,11 +78,6 @@ words_sound r f is words h =
     same_rank a.kind a.found a.numbers a.chosen f (subst (λ r. IsFitOf r f) (sym a.is) is) (sound_of a.kind a.numbers a.sound (rank_of a.numbers) refl)
 
 -- ---- jobs without rank intervals
-
-abbrev IsUnranked : Request → Type 0
-IsUnranked (request.Test t) = t.fit.rank ≡ None
-IsUnranked (request.Predict f) = f.rank ≡ None
-IsUnranked _ = Unit {0}
 
 request_unranked : (kind : Kind) (found : List Row) (n : OptionNumbers) (chosen : Coding) → IsUnranked (request_for kind found n chosen)
 request_unranked kind.Test found n chosen = refl

@@ -25,6 +25,7 @@ use Rattle.rq_words.specs.Words.{is_long, request_for, text_or_empty, words_of}
 use Rattle.rq_words.specs.declared.command.Kind.{Kind}
 use Rattle.rq_words.specs.declared.command.Kind.TheVariants as kind
 use Rattle.rq_words.proofs.Requested.{requested}
+use Rattle.rq_words.proofs.Parts.{formula_in}
 
 -- an argument that is used by its values, as they stand in the words, and by no others
 record IsOption (a : Rule) : Type 0 where
@@ -321,16 +322,6 @@ taken (k ∷ kinds) rows found h = absurd (cc h)
 matched : (app : App) (words : List Text) (found : List Row) → read_by app words ≡ Some found → matches_of app words ≡ found
 unfolding read_by
 matched app words found h = taken (kinds_of app words) (matches_of app words) found h
-
--- the formula that a request has, if it is of a fit of a table
-abbrev pub formula_in : Request → Text
-formula_in (request.Process f) = f.formula
-formula_in (request.Ranks f) = f.formula
-formula_in (request.Certify f) = f.formula
-formula_in (request.Test t) = t.fit.formula
-formula_in (request.Predict f) = f.formula
-formula_in (request.Path p) = p.fit.formula
-formula_in _ = []
 
 abbrev pub HasShortFormula : Request → Type 0
 HasShortFormula r = IsShort (2 ^ 31) (formula_in r)

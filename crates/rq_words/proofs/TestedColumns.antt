@@ -19,6 +19,7 @@ use Rattle.rq_words.specs.declared.job.WordFault.TheVariants.{BadNumber}
 use Rattle.rq_words.proofs.FewQuantiles.{joined_few}
 use Rattle.rq_words.proofs.Requested.{requested, numbers_read}
 use Rattle.rq_words.proofs.RankRequests.{are_sound}
+use Rattle.rq_words.proofs.Parts.{IsAscending}
 
 -- ---- numbers of at most three digits
 
@@ -73,10 +74,6 @@ all_given_back [] h = refl
 all_given_back (x ∷ xs) h = ap₂ (λ (x : ℕ) (xs : List ℕ). x ∷ xs) (given_back x h.0) (all_given_back xs h.1)
 
 -- ---- the request
-
-abbrev IsAscending : Request → Type 0
-IsAscending (request.Test t) = ascends (map given_number t.tested) ≡ true
-IsAscending _ = Unit {0}
 
 request_ascending : (kind : Kind) (found : List Row) (n : OptionNumbers) (chosen : Coding) → AreSmall n.tested → ascends n.tested ≡ true → IsAscending (request_for kind found n chosen)
 request_ascending kind.Test found n chosen small h = ap ascends (all_given_back n.tested small) ∙ h
