@@ -13,7 +13,8 @@ use Rattle.report_text.specs.declared.report.Report.{Report}
 use Rattle.report_text.specs.declared.report.Refusal.TheVariants.{TooLong}
 use Rattle.report_text.specs.declared.report.Halt.{Halt}
 use Rattle.report_text.specs.declared.report.Halt.TheVariants as halts
-use Rattle.rq_cli.specs.Outcomes.{Stream, OnDone, OnFault, outcome_line, AskSource, Reads, WereRead, HasCause, IsAnswered, IsErrorFault, IsFault, WasTried, IsRun}
+use Rattle.rq_words.specs.Requests.{Reads}
+use Rattle.rq_cli.specs.Outcomes.{Stream, OnDone, OnFault, outcome_line, AskSource, WereRead, HasCause, IsAnswered, IsErrorFault, IsFault, WasTried, IsRun}
 use Rattle.rq_cli.specs.Steps.{outcome_of, WasTold, WasPrinted}
 use Rattle.report_text.specs.declared.report.Fault.{Fault}
 use Rattle.report_text.specs.declared.report.Fault.TheVariants as faults
@@ -33,12 +34,12 @@ told_line other = refl
 
 -- the engine never finds an input too long
 never_long : (job : Job) (bytes : List ℕ) → engine.HasCause job bytes (halts.Refused TooLong) → ⊥
-never_long (jobs.Process fit) bytes cause = cause
+never_long (jobs.Predict fit) bytes cause = cause
 never_long other bytes cause = cause
 
 -- want of memory needs no cause
 pub memory_cause : (job : Job) (bytes : List ℕ) → engine.HasCause job bytes halts.OutOfMemory
-memory_cause (jobs.Process fit) bytes = tt
+memory_cause (jobs.Predict fit) bytes = tt
 memory_cause other bytes = tt
 
 -- where words ask for no job that reads the source, theirs doesn't

@@ -3,6 +3,7 @@ use Rattle.std.specs.Prelude.{◌≡◌, ℕ, ◌<◌, ◌≤◌, ◌+◌, ◌�
 use Rattle.std.specs.Io.KnownBytes.{Appends, Keeps}
 use Rattle.port_io.specs.Counts.{Rose}
 use Rattle.port_io.specs.Told.{most_bytes, TakesAll, TakesFirst, AppendsPart}
+use Rattle.rq_words.specs.Requests.{Reads}
 use Rattle.rq_words.specs.Words.{words_of}
 use Rattle.rq_words.specs.declared.job.Job.{Job}
 use Rattle.rq_words.specs.declared.job.Job.TheVariants as jobs
@@ -49,11 +50,6 @@ pub record Stream : Type 0 where
 -- a stream with these bytes and this count
 abbrev pub stream : Option (List ℕ) → ℕ → Stream
 stream bytes faults = record { bytes = bytes; faults = faults }
-
--- the job reads its source: every one but that of a generated table
-abbrev pub Reads : Job → Type 0
-Reads (jobs.Sample sample) = ⊥
-Reads job = ⊤
 
 -- what a job takes from the source: all of its bytes, to the end; where the table is generated nothing
 abbrev pub Takes : Job → (before now : Stream) → List ℕ → Type 0

@@ -1,9 +1,10 @@
 //! The top call.
-ghost use Rattle.std.specs.Prelude.{◌≡◌, ◌≢◌, ◌⊎◌, ◌↔◌, ℕ, List, ◌<◌, ◌≤◌, length, map, string_bytes, IfOk, IfErr, IsTrue, OnOk};
+ghost use Rattle.std.specs.Prelude.{◌≡◌, ◌≢◌, ◌⊎◌, ℕ, List, ◌<◌, ◌≤◌, length, map, string_bytes, IfOk, IfErr, OnOk};
 ghost use Rattle.rq_engine.specs.Answers.{HasCause, IsRight};
 ghost use Rattle.rq_engine.specs.Jobs.{IsJobOf};
 ghost use Rattle.report_text.specs.ReportText.{report_text};
-ghost use Rattle.rq_cli.specs.Outcomes.{outcome_line, stream, AskSource, IsAnswered, IsFault, IsRun, Reads, Takes};
+ghost use Rattle.rq_words.specs.Requests.{Reads};
+ghost use Rattle.rq_cli.specs.Outcomes.{outcome_line, stream, AskSource, IsAnswered, IsFault, IsRun, Takes};
 ghost use Rattle.port_io.specs.Told.{most_bytes};
 ghost use Rattle.rq_cli.specs.Steps.{outcome_of, IsSourceFault, IsWordFault, WasTold, WasPrinted};
 
@@ -141,13 +142,6 @@ fn read_job(alloc: Global, words: &[String]) -> Result<Job, Fault>
     }
 }
 
-// Whether the job reads its source.
-fn reads(job: &Job) -> bool
-    ensures { IsTrue result ↔ Reads job.now }
-{
-    !matches!(job, Job::Sample(_))
-}
-
 // The bytes that a job takes from the source.
 fn read_source<S: Source>(alloc: Global, job: &Job, source: &mut S) -> Result<Vec<u8>, Fault>
     ensures taken { IfOk result (λ bytes. Takes job.now
@@ -159,7 +153,7 @@ fn read_source<S: Source>(alloc: Global, job: &Job, source: &mut S) -> Result<Ve
     ensures grew { IfErr result (λ fault. S.faults source.old < S.faults source.new → fault ≡ Fault.Source) }
     ensures unread { ¬ Reads job.now → source.new ≡ source.old }
 {
-    if !reads(job) {
+    if !job.reads() {
         return Ok(Vec::new(alloc));
     }
     match read_all(alloc, source) {

@@ -17,7 +17,8 @@ use Rattle.rq_words.specs.declared.job.Job.{Job}
 use Rattle.rq_words.specs.declared.job.Job.TheVariants.{Process, Ranks, Certify, Check, Test, Predict, Path, Sample}
 use Rattle.rq_words.specs.declared.job.RankAsk.{RankAsk}
 use Rattle.rq_words.proofs.Orders.{path_range_of, range_of, words_in_order, words_over_all}
-use Rattle.rq_words.proofs.RankRequests.{IsSoundOf, test_unranked, words_sound}
+use Rattle.rq_words.proofs.Parts.{IsSoundOf}
+use Rattle.rq_words.proofs.RankRequests.{test_unranked, words_sound}
 use Rattle.rq_words.proofs.Samples.{words_sample}
 use Rattle.rq_words.proofs.ShortWords.{request_formula}
 use Rattle.rq_words.proofs.TestedColumns.{test_ascending}

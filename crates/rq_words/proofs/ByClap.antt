@@ -12,7 +12,7 @@ use Rattle.clap.specs.declared.error.kind.ErrorKind.TheVariants as kind
 use Rattle.clap.proofs.OnLiterals.{clap_on_literals}
 use Rattle.rq_words.specs.Commands.{command_of, option_rule, options_of, read_by, some_if_none, with_rules}
 use Rattle.rq_words.specs.declared.command.Kind.{Kind}
-use Rattle.rq_words.specs.declared.command.Kind.TheVariants.{Process}
+use Rattle.rq_words.specs.declared.command.Kind.TheVariants.{Ranks}
 
 -- the options of these names
 abbrev pub options_named : Bool → List (Bor Text) → List Rule
@@ -33,7 +33,7 @@ all_options app names required i h = rw take_all refl
 -- each command is one of which `clap` says when it refuses words
 pub simple : (kind : Kind) → is_simple_and_free (command_of (options_of kind)) ≡ true
 unfolding clap_on_literals
-simple Process = refl
+simple Ranks = refl
 simple other = refl
 
 -- what is found where the words are taken

@@ -1,18 +1,17 @@
 -- The range of a job that the words give lies in 0 to 1, and in order.
 use Rattle.std.proofs.Common.{◌≡◌, Bool, true, false, not, ◌&&◌, List, Option, Some, None, Ok, refl, subst, if◌then◌else◌}
 use Rattle.std.proofs.lemmas.Bool.{and_parts}
-use Rattle.clap.specs.Words.{Row, Text}
+use Rattle.clap.specs.Words.{Text}
 use Rattle.rational_laws.specs.Rational.{ℚ, le_ℚ, ◌≤ℚ◌}
-use Rattle.contrasts.specs.declared.Coding.{Coding}
 use Rattle.rq_words.specs.Requests.{OptionNumbers, PathRequest, Request}
 use Rattle.rq_words.specs.Requests as request
-use Rattle.rq_words.specs.Words.{zero, one, is_in_order, is_lambda_range, has_range, fault_of, request_for, words_of}
+use Rattle.rq_words.specs.Words.{zero, one, is_in_order, is_lambda_range, has_range, fault_of, words_of}
 use Rattle.rq_words.specs.declared.command.Kind.{Kind}
 use Rattle.rq_words.specs.declared.command.Kind.TheVariants as kind
 use Rattle.rq_words.specs.declared.job.WordFault.{WordFault}
 use Rattle.rq_words.specs.declared.job.WordFault.TheVariants.{BadRange}
 use Rattle.rq_words.proofs.Requested.{requested}
-use Rattle.rq_words.proofs.Parts.{IsOrdered, IsOverAll}
+use Rattle.rq_words.proofs.Parts.{IsOrdered, IsOverAll, request_in_order, request_over_all}
 
 in_order : (kind : Kind) (n : OptionNumbers) → fault_of kind n ≡ None → has_range kind n ≡ true
 unfolding fault_of
@@ -21,12 +20,6 @@ in_order kind n h = by (has_range kind n) _ h
     by : (b : Bool) (rest : Option WordFault) → (if not b then Some BadRange else rest) ≡ None → b ≡ true
     by true rest h = refl
     by false rest h = absurd (cc h)
-
-request_in_order : (kind : Kind) (found : List Row) (n : OptionNumbers) (chosen : Coding) → has_range kind n ≡ true → IsOrdered (request_for kind found n chosen)
-request_in_order kind.Ranks found n chosen h = tt
-request_in_order kind.Check found n chosen h = tt
-request_in_order kind.Test found n chosen h = tt
-request_in_order other found n chosen h = h
 
 pub words_in_order : (words : List Text) (r : Request) → words_of words ≡ Ok r → IsOrdered r
 words_in_order words r h =
@@ -59,11 +52,6 @@ path_range_of p h =
     denied : (b : Bool) → not b ≡ true → b ≡ true → ⊥
     denied true h k = absurd (cc h)
     denied false h k = absurd (cc k)
-
-request_over_all : (kind : Kind) (found : List Row) (n : OptionNumbers) (chosen : Coding) → IsOverAll (request_for kind found n chosen)
-request_over_all kind.Ranks found n chosen = (refl, refl)
-request_over_all kind.Test found n chosen = (refl, refl)
-request_over_all other found n chosen = tt
 
 pub words_over_all : (words : List Text) (r : Request) → words_of words ≡ Ok r → IsOverAll r
 words_over_all words r h =

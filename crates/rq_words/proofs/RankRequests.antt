@@ -1,20 +1,19 @@
 -- What words ask of rank intervals: a critical value of at least 0, and quantiles of which none is outside 0 to 1.
-use Rattle.std.proofs.Common.{◌≡◌, Bool, true, false, not, List, Option, Some, None, Ok, refl, sym, ap, subst, if◌then◌else◌, option_map, option_and_then}
+use Rattle.std.proofs.Common.{◌≡◌, Bool, true, false, not, List, Option, Some, None, Ok, refl, sym, subst, if◌then◌else◌, option_map, option_and_then}
 use Rattle.std.specs.List.{list_any}
 use Rattle.std.specs.Option.{option_map_or}
 use Rattle.std.proofs.lemmas.Bool.{not-false}
-use Rattle.clap.specs.Words.{Row, Text}
-use Rattle.rational_laws.specs.Rational.{ℚ, le_ℚ, ◌≤ℚ◌}
-use Rattle.contrasts.specs.declared.Coding.{Coding}
+use Rattle.clap.specs.Words.{Text}
+use Rattle.rational_laws.specs.Rational.{ℚ, le_ℚ}
 use Rattle.rq_words.specs.Requests.{FitRequest, OptionNumbers, RankRequest, Request, TestRequest}
 use Rattle.rq_words.specs.Requests as request
-use Rattle.rq_words.specs.Words.{zero, has_range, is_outside, ascends, fault_of, rank_of, request_for, words_of}
+use Rattle.rq_words.specs.Words.{zero, has_range, is_outside, ascends, fault_of, rank_of, words_of}
 use Rattle.rq_words.specs.declared.command.Kind.{Kind}
 use Rattle.rq_words.specs.declared.command.Kind.TheVariants as kind
 use Rattle.rq_words.specs.declared.job.WordFault.{WordFault}
 use Rattle.rq_words.specs.declared.job.WordFault.TheVariants.{BadRange, BadTauForRank, NegativeLimit, NotAscending, RankHalf}
 use Rattle.rq_words.proofs.Requested.{requested}
-use Rattle.rq_words.proofs.Parts.{IsFitOf, IsUnranked}
+use Rattle.rq_words.proofs.Parts.{IsFitOf, IsSound, IsSoundOf, IsUnranked, request_unranked, same_rank}
 
 -- a test that finds no fault fails, and so do those behind it
 untold : (b : Bool) (fault : WordFault) (rest : Option WordFault) → (if b then Some fault else rest) ≡ None → (b ≡ false) × (rest ≡ None)
@@ -22,11 +21,6 @@ untold true fault rest h = absurd (cc h)
 untold false fault rest h = (refl, h)
 
 -- ---- the request
-
--- what the checks leave of a request for intervals
-pub record IsSound (r : RankRequest) : Type 0 where
-  pub crit : zero ≤ℚ r.crit
-  pub taus : list_any is_outside r.taus ≡ false
 
 -- of the numbers of the options
 pub record AreSound (n : OptionNumbers) : Type 0 where
@@ -52,24 +46,9 @@ sound_by (Some crit) (Some taus) inner sign r h =
     let is : record { crit = crit; taus = taus } ≡ r = cc h in
     subst IsSound is (record { crit = record { le = not-false (le_ℚ zero crit) sign }; taus = inner })
 
--- a request for intervals, if there is one
-abbrev pub IsSoundOf : Option RankRequest → Type 0
-IsSoundOf None = Unit {0}
-IsSoundOf (Some r) = IsSound r
-
 sound_of : (kind : Kind) (n : OptionNumbers) → fault_of kind n ≡ None → (o : Option RankRequest) → rank_of n ≡ o → IsSoundOf o
 sound_of kind n h None e = tt
 sound_of kind n h (Some r) e = let sound = are_sound kind n h in sound_by n.crit n.taus sound.taus sound.crit r e
-
-abbrev rank_in : FitRequest → Option RankRequest
-rank_in f = f.rank
-
-same_rank : (kind : Kind) (found : List Row) (n : OptionNumbers) (chosen : Coding) (f : FitRequest) → IsFitOf (request_for kind found n chosen) f → IsSoundOf (rank_of n) → IsSoundOf f.rank
-same_rank kind.Process found n chosen f h sound = subst IsSoundOf (ap rank_in h) sound
-same_rank kind.Ranks found n chosen f h sound = subst IsSoundOf (ap rank_in h) sound
-same_rank kind.Certify found n chosen f h sound = subst IsSoundOf (ap rank_in h) sound
-same_rank kind.Predict found n chosen f h sound = subst IsSoundOf (ap rank_in h) tt
-same_rank other found n chosen f h sound = absurd h
 
 -- so is what the words ask for
 pub words_sound : (r : Request) (f : FitRequest) → IsFitOf r f → (words : List Text) → words_of words ≡ Ok r → IsSoundOf f.rank
@@ -78,11 +57,6 @@ words_sound r f is words h =
     same_rank a.kind a.found a.numbers a.chosen f (subst (λ r. IsFitOf r f) (sym a.is) is) (sound_of a.kind a.numbers a.sound (rank_of a.numbers) refl)
 
 -- ---- jobs without rank intervals
-
-request_unranked : (kind : Kind) (found : List Row) (n : OptionNumbers) (chosen : Coding) → IsUnranked (request_for kind found n chosen)
-request_unranked kind.Test found n chosen = refl
-request_unranked kind.Predict found n chosen = refl
-request_unranked other found n chosen = tt
 
 words_unranked : (words : List Text) (r : Request) → words_of words ≡ Ok r → IsUnranked r
 words_unranked words r h =

@@ -17,15 +17,14 @@ use Rattle.clap.specs.declared.builder.action.ArgAction.TheVariants.{Set}
 use Rattle.clap.specs.declared.parser.matches.ValueSource.{ValueSource}
 use Rattle.clap.specs.declared.parser.matches.ValueSource.TheVariants.{CommandLine}
 use Rattle.clap.specs.declared.builder.value_parser.Reading.{Reading}
-use Rattle.contrasts.specs.declared.Coding.{Coding}
 use Rattle.rq_words.specs.Commands.{command_of, options_of, read_by, some_if_none}
-use Rattle.rq_words.specs.Requests.{OptionNumbers, Request}
+use Rattle.rq_words.specs.Requests.{Request}
 use Rattle.rq_words.specs.Requests as request
-use Rattle.rq_words.specs.Words.{is_long, request_for, text_or_empty, words_of}
+use Rattle.rq_words.specs.Words.{is_long, text_or_empty, words_of}
 use Rattle.rq_words.specs.declared.command.Kind.{Kind}
 use Rattle.rq_words.specs.declared.command.Kind.TheVariants as kind
 use Rattle.rq_words.proofs.Requested.{requested}
-use Rattle.rq_words.proofs.Parts.{formula_in}
+use Rattle.rq_words.proofs.Parts.{HasShortFormula, request_short}
 
 -- an argument that is used by its values, as they stand in the words, and by no others
 record IsOption (a : Rule) : Type 0 where
@@ -322,15 +321,6 @@ taken (k ∷ kinds) rows found h = absurd (cc h)
 matched : (app : App) (words : List Text) (found : List Row) → read_by app words ≡ Some found → matches_of app words ≡ found
 unfolding read_by
 matched app words found h = taken (kinds_of app words) (matches_of app words) found h
-
-abbrev pub HasShortFormula : Request → Type 0
-HasShortFormula r = IsShort (2 ^ 31) (formula_in r)
-
-request_short : (kind : Kind) (found : List Row) (n : OptionNumbers) (chosen : Coding) → IsShort (2 ^ 31) (text_or_empty (first_of (codes "formula") found))
-    → HasShortFormula (request_for kind found n chosen)
-request_short kind.Check found n chosen h = lit< tt
-request_short kind.Sample found n chosen h = lit< tt
-request_short other found n chosen h = h
 
 -- the formula that words have is shorter than 2^31 bytes
 pub request_formula : (words : List Text) (r : Request) → words_of words ≡ Ok r → HasShortFormula r

@@ -1,5 +1,5 @@
 -- Stated. What a job asks for, with its numbers in ℚ and its texts as bytes.
-use Rattle.std.specs.Prelude.{ℕ, ◌+◌, ◌-◌, ◌^◌, ◌==◌, if◌then◌else◌, List, map, Option, option_map, Result}
+use Rattle.std.specs.Prelude.{ℕ, ◌+◌, ◌-◌, ◌^◌, ◌==◌, if◌then◌else◌, List, map, Option, option_map, Result, ⊤}
 use Rattle.std.specs.Result.{result_map_both}
 use Rattle.rational_laws.specs.Rational.{ℚ}
 use Rattle.frac_core.specs.Values.{exact}
@@ -136,6 +136,11 @@ request_of (job.Sample s) = Sample (sample_request s)
 request_of (job.Test t) = Test (test_request t)
 request_of (job.Predict f) = Predict (fit_request f)
 request_of (job.Path p) = Path (path_request p)
+
+-- the job reads its source: every one but that of a generated table
+abbrev pub Reads : Job → Type 0
+Reads (job.Sample sample) = ⊥
+Reads other = ⊤
 
 -- what an answer asks for, or its fault
 abbrev pub request_or_fault : Result Job WordFault → Result Request WordFault

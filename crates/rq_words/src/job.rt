@@ -1,4 +1,7 @@
 //! What a command asks for.
+ghost use Rattle.std.specs.Prelude.{◌↔◌, IsTrue};
+ghost use Rattle.rq_words.specs.Requests.{Reads};
+
 use contrasts::Coding;
 use frac_core::{Frac128, List, Text};
 
@@ -22,6 +25,15 @@ pub enum Job {
     Predict(FitJob),
     /// The l1 path of a fit in lambda. No rank intervals are asked for.
     Path(PathJob),
+}
+
+impl Job {
+    /// Whether the job reads its source: every one but that of a generated table.
+    pub fn reads(&self) -> bool
+        ensures { IsTrue result ↔ Reads self.now }
+    {
+        !matches!(self, Job::Sample(_))
+    }
 }
 
 /// A fit of a table.

@@ -10,7 +10,7 @@ use Rattle.loss_model.specs.Problem.{sample, IsWellShaped}
 use Rattle.port_io.specs.Told.{most_bytes, TakesAll, TakesFirst}
 use Rattle.pivot_laws.specs.BoundLaws.{further_bases}
 use Rattle.lambda_path.specs.Laws.{PathHasCosts}
-use Rattle.rq_words.specs.Requests.{request_of}
+use Rattle.rq_words.specs.Requests.{Reads, request_of}
 use Rattle.rq_words.specs.declared.job.FitJob.{FitJob}
 use Rattle.rq_words.specs.declared.job.Job.{Job}
 use Rattle.rq_words.specs.declared.job.Job.TheVariants as jobs
@@ -30,7 +30,7 @@ use Rattle.rq_engine.specs.Fit.{IsFitOf, IsRightProcess}
 use Rattle.rq_engine.specs.Answers as engine
 use Rattle.rq_engine.specs.Answers.{IsRight, HasFitCause, HasCertifyCause, HasPredictCause}
 use Rattle.rq_engine.specs.Jobs.{IsJobOf, sample_fit}
-use Rattle.rq_cli.specs.Outcomes.{Stream, IsRun, IsAnswered, IsHalted, IsTooLong, Reads, Takes, WereRead}
+use Rattle.rq_cli.specs.Outcomes.{Stream, IsRun, IsAnswered, IsHalted, IsTooLong, Takes, WereRead}
 use Rattle.rq_cli.specs.declared.outcome.Outcome.{Outcome}
 use Rattle.rq_cli.specs.declared.outcome.Outcome.TheVariants.{Refused, PivotLimit, Rejected}
 use Rattle.stop_laws.proofs.Needed.{dependent}

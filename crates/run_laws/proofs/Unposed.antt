@@ -13,7 +13,8 @@ use Rattle.report_text.specs.declared.report.Halt.TheVariants as halts
 use Rattle.rq_input.specs.Inputs.{HasInputCause, IsInput}
 use Rattle.rq_input.specs.declared.input.Input.{Input}
 use Rattle.run_laws.specs.Faults.{InputsHaveNoFault}
-use Rattle.rq_cli.specs.Outcomes.{Stream, IsRun, IsAnswered, IsHalted, Reads, WereRead}
+use Rattle.rq_words.specs.Requests.{Reads}
+use Rattle.rq_cli.specs.Outcomes.{Stream, IsRun, IsAnswered, IsHalted, WereRead}
 use Rattle.rq_cli.specs.declared.outcome.Outcome.{Outcome}
 use Rattle.run_laws.specs.Completeness.{IsUnposed}
 use Rattle.run_laws.specs.NeededOutcomes.{AskFit, table_bytes}

@@ -41,7 +41,8 @@ use Rattle.rq_engine.specs.Stops.{most}
 use Rattle.rq_engine.specs.Answers.{IsRight}
 use Rattle.rq_engine.specs.Checks.{IsCertOf}
 use Rattle.rq_engine.specs.Jobs.{IsJobOf, sample_fit, sample_table}
-use Rattle.rq_cli.specs.Outcomes.{Stream, IsRun, IsHalted, Reads}
+use Rattle.rq_words.specs.Requests.{Reads}
+use Rattle.rq_cli.specs.Outcomes.{Stream, IsRun, IsHalted}
 use Rattle.rq_cli.specs.declared.outcome.Outcome.{Outcome}
 use Rattle.rq_cli.specs.declared.outcome.Outcome.TheVariants.{Done, Refused, OutOfMemory, PivotLimit, Overflow, Rejected}
 use Rattle.run_laws.specs.NeededOutcomes.{AskFit, IsLimitedAt, OverflowsAt, WasInput, WasPath, WasPosed, WasRestricted, WasTested, table_bytes}
