@@ -52,17 +52,52 @@ pub fn answer<R: Threads + Sync, G: Gate>(
 {
     match job {
         Job::Process(fit_job) => {
-            let ranked = fit_job.rank.is_some();
-            fit_bytes(rt, alloc, fit_job, ranked, bytes, gate).map(Report::Process)
+            match fit_bytes(rt, alloc, fit_job, fit_job.rank.is_some(), bytes, gate) {
+                Ok(fit) => Ok(Report::Process(fit)),
+                Err(halt) => Err(halt),
+            }
         }
-        Job::Ranks(fit_job) => ranks_bytes(rt, alloc, fit_job, bytes, gate).map(Report::Ranks),
+        Job::Ranks(fit_job) => {
+            match ranks_bytes(rt, alloc, fit_job, bytes, gate) {
+                Ok(ranks) => Ok(Report::Ranks(ranks)),
+                Err(halt) => Err(halt),
+            }
+        }
         Job::Certify(fit_job) => {
-            certify_bytes(rt, alloc, fit_job, bytes, gate).map(Report::Certificate)
+            match certify_bytes(rt, alloc, fit_job, bytes, gate) {
+                Ok(cert) => Ok(Report::Certificate(cert)),
+                Err(halt) => Err(halt),
+            }
         }
-        Job::Check => check_bytes(rt, alloc, bytes, gate).map(Report::Checked),
-        Job::Test(test_job) => test_bytes(alloc, test_job, bytes).map(Report::Test),
-        Job::Predict(fit_job) => predict_bytes(alloc, fit_job, bytes).map(Report::Predict),
-        Job::Path(path_job) => path_bytes(alloc, path_job, bytes).map(Report::Path),
-        Job::Sample(sample_job) => fit_sample(rt, alloc, sample_job, gate).map(Report::Sample),
+        Job::Check => {
+            match check_bytes(rt, alloc, bytes, gate) {
+                Ok(cert) => Ok(Report::Checked(cert)),
+                Err(halt) => Err(halt),
+            }
+        }
+        Job::Test(test_job) => {
+            match test_bytes(alloc, test_job, bytes) {
+                Ok(fit) => Ok(Report::Test(fit)),
+                Err(halt) => Err(halt),
+            }
+        }
+        Job::Predict(fit_job) => {
+            match predict_bytes(alloc, fit_job, bytes) {
+                Ok(fit) => Ok(Report::Predict(fit)),
+                Err(halt) => Err(halt),
+            }
+        }
+        Job::Path(path_job) => {
+            match path_bytes(alloc, path_job, bytes) {
+                Ok(fit) => Ok(Report::Path(fit)),
+                Err(halt) => Err(halt),
+            }
+        }
+        Job::Sample(sample_job) => {
+            match fit_sample(rt, alloc, sample_job, gate) {
+                Ok(fit) => Ok(Report::Sample(fit)),
+                Err(halt) => Err(halt),
+            }
+        }
     }
 }
