@@ -34,13 +34,14 @@ told_line other = refl
 
 -- the engine never finds an input too long
 never_long : (job : Job) (bytes : List ℕ) → engine.HasCause job bytes (halts.Refused TooLong) → ⊥
-never_long (jobs.Predict fit) bytes cause = cause
-never_long other bytes cause = cause
+never_long jobs.Check bytes cause = cause
+never_long job bytes (inl cause) = cause
+never_long job bytes (inr lacks) = lacks.cause
 
 -- want of memory needs no cause
 pub memory_cause : (job : Job) (bytes : List ℕ) → engine.HasCause job bytes halts.OutOfMemory
-memory_cause (jobs.Predict fit) bytes = tt
-memory_cause other bytes = tt
+memory_cause jobs.Check bytes = tt
+memory_cause job bytes = inl tt
 
 -- where words ask for no job that reads the source, theirs doesn't
 pub left_alone : (words : List (List ℕ)) (job : Job) → IsJobOf words job → ¬ AskSource words → ¬ Reads job

@@ -1,5 +1,5 @@
 -- The certificate of a right fit, and why there is none.
-use Rattle.std.proofs.Common.{◌≡◌, ◌<◌, ◌≤◌, ℕ, suc, Bool, List, [], ◌∷◌, ◌++◌, All, Contains, get_or, is_some, length, map, Some, slice_index, arith, refl, sym, ap, subst, ◌∙◌}
+use Rattle.std.proofs.Common.{◌≡◌, ◌<◌, ◌≤◌, ℕ, suc, List, [], ◌∷◌, ◌++◌, All, Contains, get_or, length, map, Some, slice_index, arith, refl, sym, ap, subst, ◌∙◌}
 use Rattle.std.specs.List.{AllZip}
 use Rattle.std.proofs.lemmas.List.Elements.{All-cons, All-nil}
 use Rattle.rational_laws.specs.Fraction.{Fraction, rational}
@@ -31,17 +31,14 @@ use Rattle.rq_words.specs.declared.job.FitJob.{FitJob}
 use Rattle.report_text.specs.declared.report.Fit.{Fit}
 use Rattle.report_text.specs.declared.report.Refusal.TheVariants as refusals
 use Rattle.report_text.specs.declared.report.Halt.{Halt}
-use Rattle.report_text.specs.declared.report.Halt.TheVariants.{Refused, OutOfMemory, PivotLimit, Overflow}
-use Rattle.rq_input.specs.Inputs.{IsInput}
+use Rattle.report_text.specs.declared.report.Halt.TheVariants.{Refused, OutOfMemory}
 use Rattle.rq_input.specs.declared.input.Input.{Input}
-use Rattle.rq_input.specs.Rows.{HasRows}
 use Rattle.rq_engine.specs.Fit.{IsRightFit}
 use Rattle.rq_engine.specs.Intervals.{AreRightIntervals, asked_by}
 use Rattle.rq_engine.specs.Stops.{HasProblemCause}
 use Rattle.rq_engine.proofs.Fits.{process_scorable}
-use Rattle.rq_engine.specs.Answers.{HasCertifyCause, IsCertified}
-use Rattle.rq_engine.specs.Certifying.{HasCertifiedCause, IsKept, IsLengthHalt}
-use Rattle.rq_engine.proofs.Causes.{problem_cause}
+use Rattle.rq_engine.specs.Answers.{HasCertifiedCause, IsCertified}
+use Rattle.rq_engine.specs.Certifying.{IsKept, IsLengthHalt}
 use Rattle.rq_engine.proofs.Listed.{listed_vertex}
 
 -- ---- what a certificate keeps
@@ -132,18 +129,3 @@ pub length_certified : (job : FitJob) (input : Input) (cert : Cert) → IsCertif
 length_certified job input cert is (Refused (refusals.CertTooLong n)) h = (cert, is, h)
 length_certified job input cert is OutOfMemory h = tt
 length_certified job input cert is halt h = absurd h
-
--- and what an input lacks is what the bytes lack
-pub certified_certify : (job : FitJob) (bytes : List ℕ) (input : Input) → IsInput job (is_some job.rank) bytes input → HasRows input → (halt : Halt) → HasCertifiedCause job input halt → HasCertifyCause job bytes halt
-certified_certify job bytes input is rows halt h = by halt h
-  where
-    ranked : Bool
-    ranked = is_some job.rank
-
-    by : (halt : Halt) → HasCertifiedCause job input halt → HasCertifyCause job bytes halt
-    by (Refused (refusals.CertTooLong n)) h = record { cert = h.0; right = (input, is, h.1); long = h.2 }
-    by (Refused (refusals.Dependent combination)) h = problem_cause job ranked bytes input is rows (Refused (refusals.Dependent combination)) h
-    by OutOfMemory h = tt
-    by (PivotLimit place limit trail) h = problem_cause job ranked bytes input is rows (PivotLimit place limit trail) h
-    by (Overflow place trail spill) h = problem_cause job ranked bytes input is rows (Overflow place trail spill) h
-    by other h = absurd h

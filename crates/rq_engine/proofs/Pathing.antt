@@ -1,5 +1,5 @@
 -- Why an input has a path in lambda: its costs are lawful at every lambda above 0, and its columns are independent.
-use Rattle.std.proofs.Common.{◌≡◌, ◌≤◌, ◌+◌, ◌-◌, Bool, true, false, List, length, pos, arith, ap, inl, inr, refl, ℕ}
+use Rattle.std.proofs.Common.{◌≡◌, ◌≤◌, ◌+◌, ◌-◌, Bool, true, false, List, length, pos, arith, ap, inl, inr, refl}
 use Rattle.rational_laws.specs.Fraction.{rational}
 use Rattle.rational_laws.specs.Rational.{ℚ, whole}
 use Rattle.rational_laws.proofs.OrderLaws.{cmp_ℚ-Less}
@@ -29,15 +29,13 @@ use Rattle.rq_input.specs.Rows.{HasRows}
 use Rattle.rq_input.specs.declared.plain.PlainInput.{PlainInput}
 use Rattle.rq_engine.specs.Asks.{IsPathAsk}
 use Rattle.rq_engine.specs.Halts.{stop_halt}
-use Rattle.rq_engine.specs.Paths.{HasPathCause, IsPathFitOf, IsPathProblem, first_penalised, path_halt}
+use Rattle.rq_engine.specs.PathHalts.{path_halt}
+use Rattle.rq_engine.specs.Paths.{HasPathCause, IsPathFitOf, IsPathProblem, first_penalised}
 use Rattle.rq_engine.specs.Stops.{most}
 use Rattle.rq_program.specs.declared.fault.ProgramFault.TheVariants as programs
 use Rattle.report_text.specs.declared.report.Refusal.TheVariants.{Dependent}
 use Rattle.report_text.specs.declared.report.Refusal.TheVariants as refusals
-use Rattle.report_text.specs.declared.report.Halt.{Halt}
-use Rattle.report_text.specs.declared.report.Halt.TheVariants.{Refused, OutOfMemory, PivotLimit, Overflow}
-use Rattle.rq_input.specs.Plain.{HasPlainCause, IsPlain}
-use Rattle.rq_engine.specs.Answers.{HasPathFitCause}
+use Rattle.report_text.specs.declared.report.Halt.TheVariants.{OutOfMemory, PivotLimit, Overflow}
 
 -- the first penalised column is one of them, or the end
 pub first_within : (plain : PlainInput) → HasRows plain.input → first_penalised plain.intercept ≤ plain.input.problem.columns
@@ -90,20 +88,3 @@ pub path_printable : (job : PathJob) (plain : PlainInput) (fit : PathFit) → Ha
 path_printable job plain fit rows of =
     let size : length fit.problem.rows ≡ length plain.input.problem.rows + (plain.input.problem.columns - first_penalised plain.intercept) = of.path.rows in
     (omega (arith, of.data_rows, size, rows.size), λ k d l. record { lo = (of.process.segments k d l).at_lo.basic; hi = (of.process.segments k d l).at_hi.basic })
-
--- ---- the bytes of an input
-
--- bytes without an input have no path
-pub input_path : (job : PathJob) (bytes : List ℕ) (halt : Halt) → HasPlainCause job.fit bytes halt → HasPathFitCause job bytes halt
-input_path job bytes (Refused (refusals.Program programs.TooManyRows)) h = inl h
-input_path job bytes (PivotLimit place limit trail) h = absurd h.2.cause
-input_path job bytes (Overflow place trail spill) h = absurd h.2.cause
-input_path job bytes halt h = h
-
--- nor have those whose input has none
-pub fit_path : (job : PathJob) (bytes : List ℕ) (plain : PlainInput) → IsPlain job.fit bytes plain → HasRows plain.input → (halt : Halt) → HasPathCause job plain halt → HasPathFitCause job bytes halt
-fit_path job bytes plain is rows (Refused (refusals.Program programs.TooManyRows)) h = inr (record { plain = plain; is = is; rows = rows; cause = h })
-fit_path job bytes plain is rows OutOfMemory h = tt
-fit_path job bytes plain is rows (PivotLimit place limit trail) h = record { plain = plain; is = is; rows = rows; cause = h }
-fit_path job bytes plain is rows (Overflow place trail spill) h = record { plain = plain; is = is; rows = rows; cause = h }
-fit_path job bytes plain is rows halt h = absurd h

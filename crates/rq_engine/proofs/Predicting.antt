@@ -32,13 +32,8 @@ use Rattle.rq_engine.specs.Fit.{IsRightProcess}
 use Rattle.rq_engine.specs.Lacking.{IsUnpredictedRow}
 use Rattle.rq_engine.specs.Predicted.{HasPredictedCause, IsPredictFitOf, IsPredictionBy, IsRowSpill}
 use Rattle.rq_engine.specs.Stops.{most}
-use Rattle.report_text.specs.declared.report.Refusal.TheVariants.{Dependent}
 use Rattle.report_text.specs.declared.report.Refusal.TheVariants as refusals
-use Rattle.report_text.specs.declared.report.Halt.{Halt}
-use Rattle.report_text.specs.declared.report.Halt.TheVariants.{Refused, OutOfMemory, PivotLimit, Overflow}
-use Rattle.rq_input.specs.Predictions.{HasPredictionCause, IsPrediction}
-use Rattle.rq_input.specs.Rows.{HasRows}
-use Rattle.rq_engine.specs.Answers.{HasPredictCause}
+use Rattle.report_text.specs.declared.report.Halt.TheVariants.{OutOfMemory, Overflow}
 
 module _ (segments : List (Segment Frac128)) (row : PredictRow) where
   -- the steps of a row are joined where the segments cover a range
@@ -81,20 +76,3 @@ predict_right job asked q predictions shaped right all fit kept dropped names pr
       predictions = subst (λ (p : Process Frac128). AllZip (IsPredictionBy (rational (value job.lo)) (rational (value job.hi)) p.segments) asked.rows fit.predictions) (sym process)
           (subst (AllZip (IsPredictionBy (rational (value job.lo)) (rational (value job.hi)) q.segments) asked.rows) (sym made) all);
     }
-
--- ---- the bytes of an input
-
--- why bytes ask for no predictions is why they have none
-pub input_predict : (job : FitJob) (bytes : List ℕ) (halt : Halt) → HasPredictionCause job bytes halt → HasPredictCause job bytes halt
-input_predict job bytes (Refused (Dependent combination)) h = absurd h.2.cause
-input_predict job bytes (PivotLimit place limit trail) h = absurd h.2.cause
-input_predict job bytes (Overflow place trail spill) h = absurd h.2.cause
-input_predict job bytes halt h = h
-
--- and so is why the rows that they ask for have none
-pub predicted_predict : (job : FitJob) (bytes : List ℕ) (asked : PredictionInput) → IsPrediction job bytes asked → HasRows asked.input → (halt : Halt) → HasPredictedCause job asked halt → HasPredictCause job bytes halt
-predicted_predict job bytes asked is rows (Refused (Dependent combination)) h = record { asked = asked; is = is; rows = rows; cause = h }
-predicted_predict job bytes asked is rows OutOfMemory h = tt
-predicted_predict job bytes asked is rows (PivotLimit place limit trail) h = record { asked = asked; is = is; rows = rows; cause = h }
-predicted_predict job bytes asked is rows (Overflow place trail spill) h = record { asked = asked; is = is; rows = rows; cause = h }
-predicted_predict job bytes asked is rows halt h = absurd h

@@ -31,7 +31,7 @@ use Rattle.report_text.specs.declared.report.Halt.TheVariants.{Refused, PivotLim
 use Rattle.report_text.specs.declared.report.Refusal.TheVariants.{Dependent}
 use Rattle.report_text.specs.declared.report.Place.TheVariants as places
 use Rattle.rq_input.specs.Rows.{HasRows}
-use Rattle.rq_input.specs.Tested.{AreColumns, HasTestedCause, IsTested}
+use Rattle.rq_input.specs.Tested.{AreColumns}
 use Rattle.rq_input.specs.declared.input.Input.{Input}
 use Rattle.rq_engine.specs.Asks.{IsFitAsk, IsUnitAsk}
 use Rattle.rq_engine.specs.Halts.{stop_halt}
@@ -39,7 +39,6 @@ use Rattle.rq_engine.specs.Stops.{most}
 use Rattle.rq_engine.specs.Tested.{AreScoredBy, HasScoredCause, HasTestCause}
 use Rattle.rq_engine.proofs.Fits.{process_scorable}
 use Rattle.rq_engine.proofs.Scoring.{unit_ask}
-use Rattle.rq_engine.specs.Answers.{HasTestFitCause}
 
 pub are_tested : (columns : ℕ) (tested : List ℕ) → AreColumns columns tested → AreTested columns tested
 are_tested columns tested are = record { ascending = are.ascending; within = are.within }
@@ -137,20 +136,3 @@ module _ (job : TestJob) (input : Input) where
   scored_cause rank (PivotLimit place limit trail) h = (rank, h)
   scored_cause rank (Overflow places.Full trail spill) h = absurd h
   scored_cause rank halt h = h
-
--- ---- the bytes of an input
-
--- bytes without tested columns have no test
-pub input_test : (job : TestJob) (bytes : List ℕ) (halt : Halt) → HasTestedCause job bytes halt → HasTestFitCause job bytes halt
-input_test job bytes (Refused (Dependent combination)) h = absurd h.2.cause
-input_test job bytes (PivotLimit place limit trail) h = absurd h.2.cause
-input_test job bytes (Overflow place trail spill) h = absurd h.2.cause
-input_test job bytes halt h = h
-
--- nor have those whose input has none
-pub fit_test : (job : TestJob) (bytes : List ℕ) (input : Input) → IsTested job bytes input → HasRows input → (halt : Halt) → HasTestCause job input halt → HasTestFitCause job bytes halt
-fit_test job bytes input is rows (Refused (Dependent combination)) h = record { input = input; is = is; rows = rows; cause = h }
-fit_test job bytes input is rows (PivotLimit place limit trail) h = record { input = input; is = is; rows = rows; cause = h }
-fit_test job bytes input is rows (Overflow place trail spill) h = record { input = input; is = is; rows = rows; cause = h }
-fit_test job bytes input is rows OutOfMemory h = tt
-fit_test job bytes input is rows halt h = absurd h

@@ -21,10 +21,9 @@ use Rattle.report_text.specs.declared.report.RanksFit.{RanksFit}
 use Rattle.report_text.specs.declared.report.TestFit.{TestFit}
 use Rattle.report_text.specs.declared.report.Report.{Report}
 use Rattle.report_text.specs.declared.report.Report.TheVariants as reports
-use Rattle.rq_program.specs.declared.fault.ProgramFault.TheVariants.{TooManyRows}
-use Rattle.report_text.specs.declared.report.Refusal.TheVariants.{Dependent, CertTooLong, Program}
+use Rattle.report_text.specs.declared.report.Refusal.TheVariants.{CertTooLong}
 use Rattle.report_text.specs.declared.report.Halt.{Halt}
-use Rattle.report_text.specs.declared.report.Halt.TheVariants.{Refused, PivotLimit, Overflow}
+use Rattle.report_text.specs.declared.report.Halt.TheVariants.{Refused}
 use Rattle.rq_engine.specs.Fit.{IsFitOf}
 use Rattle.rq_engine.specs.Paths.{HasPathCause, IsPathFitOf}
 use Rattle.rq_engine.specs.Predicted.{HasPredictedCause, IsPredictFitOf}
@@ -89,23 +88,25 @@ pub record LacksFit (job : FitJob) (ranked : Bool) (bytes : List ℕ) (halt : Ha
   pub rows : HasRows input
   pub cause : HasProblemCause job (length input.design.rows) input.problem halt
 
--- why bytes have no fit: their problem has none, or there is no problem
+-- why bytes have no fit: they are no input, or its problem has none
 abbrev pub HasFitCause : FitJob → Bool → List ℕ → Halt → Type 0
-HasFitCause job ranked bytes (Refused (Dependent combination)) = LacksFit job ranked bytes (Refused (Dependent combination))
-HasFitCause job ranked bytes (PivotLimit place limit trail) = LacksFit job ranked bytes (PivotLimit place limit trail)
-HasFitCause job ranked bytes (Overflow place trail spill) = LacksFit job ranked bytes (Overflow place trail spill)
-HasFitCause job ranked bytes halt = HasInputCause job ranked bytes halt
+HasFitCause job ranked bytes halt = HasInputCause job ranked bytes halt ⊎ LacksFit job ranked bytes halt
 
--- the certificate of the bytes is too long, and its text has this length
-pub record HasLongCertificate (job : FitJob) (bytes : List ℕ) (n : ℕ) : Type 0 where
-  pub cert : Cert
-  pub right : IsCertifiedOfBytes job bytes cert
-  pub long : IsTooLong cert n
+-- why an input has no certificate: its problem has no fit, or its certificate is too long
+abbrev pub HasCertifiedCause : FitJob → Input → Halt → Type 0
+HasCertifiedCause job input (Refused (CertTooLong n)) = (cert : Cert) × IsCertified job input cert × IsTooLong cert n
+HasCertifiedCause job input halt = HasProblemCause job (length input.design.rows) input.problem halt
 
--- why bytes have no certificate: they have no fit, or its certificate is too long
+-- the input of the bytes has no certificate, for this halt
+pub record LacksCertificate (job : FitJob) (bytes : List ℕ) (halt : Halt) : Type 0 where
+  pub input : Input
+  pub is : IsInput job (is_some job.rank) bytes input
+  pub rows : HasRows input
+  pub cause : HasCertifiedCause job input halt
+
+-- why bytes have no certificate: they are no input, or it has none
 abbrev pub HasCertifyCause : FitJob → List ℕ → Halt → Type 0
-HasCertifyCause job bytes (Refused (CertTooLong n)) = HasLongCertificate job bytes n
-HasCertifyCause job bytes halt = HasFitCause job (is_some job.rank) bytes halt
+HasCertifyCause job bytes halt = HasInputCause job (is_some job.rank) bytes halt ⊎ LacksCertificate job bytes halt
 
 -- the input of the bytes has no test, for this halt
 pub record LacksTestFit (job : TestJob) (bytes : List ℕ) (halt : Halt) : Type 0 where
@@ -114,12 +115,9 @@ pub record LacksTestFit (job : TestJob) (bytes : List ℕ) (halt : Halt) : Type 
   pub rows : HasRows input
   pub cause : HasTestCause job input halt
 
--- why bytes have no test: their input has none, or they have no columns to be tested
+-- why bytes have no test: they are no input that has the tested columns, or that has none
 abbrev pub HasTestFitCause : TestJob → List ℕ → Halt → Type 0
-HasTestFitCause job bytes (Refused (Dependent combination)) = LacksTestFit job bytes (Refused (Dependent combination))
-HasTestFitCause job bytes (PivotLimit place limit trail) = LacksTestFit job bytes (PivotLimit place limit trail)
-HasTestFitCause job bytes (Overflow place trail spill) = LacksTestFit job bytes (Overflow place trail spill)
-HasTestFitCause job bytes halt = HasTestedCause job bytes halt
+HasTestFitCause job bytes halt = HasTestedCause job bytes halt ⊎ LacksTestFit job bytes halt
 
 -- the rows that the bytes ask for have no predictions, for this halt
 pub record LacksPredictFit (job : FitJob) (bytes : List ℕ) (halt : Halt) : Type 0 where
@@ -128,12 +126,9 @@ pub record LacksPredictFit (job : FitJob) (bytes : List ℕ) (halt : Halt) : Typ
   pub rows : HasRows asked.input
   pub cause : HasPredictedCause job asked halt
 
--- why bytes have no predictions: the rows that they ask for have none, or they ask for none
+-- why bytes have no predictions: they ask for none, or the rows that they ask for have none
 abbrev pub HasPredictCause : FitJob → List ℕ → Halt → Type 0
-HasPredictCause job bytes (Refused (Dependent combination)) = LacksPredictFit job bytes (Refused (Dependent combination))
-HasPredictCause job bytes (PivotLimit place limit trail) = LacksPredictFit job bytes (PivotLimit place limit trail)
-HasPredictCause job bytes (Overflow place trail spill) = LacksPredictFit job bytes (Overflow place trail spill)
-HasPredictCause job bytes halt = HasPredictionCause job bytes halt
+HasPredictCause job bytes halt = HasPredictionCause job bytes halt ⊎ LacksPredictFit job bytes halt
 
 -- the input of the bytes has no path, for this halt
 pub record LacksPathFit (job : PathJob) (bytes : List ℕ) (halt : Halt) : Type 0 where
@@ -142,13 +137,9 @@ pub record LacksPathFit (job : PathJob) (bytes : List ℕ) (halt : Halt) : Type 
   pub rows : HasRows plain.input
   pub cause : HasPathCause job plain halt
 
--- why bytes have no path: their input has none, or they have no input
+-- why bytes have no path: they are no input, or it has none
 abbrev pub HasPathFitCause : PathJob → List ℕ → Halt → Type 0
-HasPathFitCause job bytes (Refused (Program TooManyRows)) = HasPlainCause job.fit bytes (Refused (Program TooManyRows))
-    ⊎ LacksPathFit job bytes (Refused (Program TooManyRows))
-HasPathFitCause job bytes (PivotLimit place limit trail) = LacksPathFit job bytes (PivotLimit place limit trail)
-HasPathFitCause job bytes (Overflow place trail spill) = LacksPathFit job bytes (Overflow place trail spill)
-HasPathFitCause job bytes halt = HasPlainCause job.fit bytes halt
+HasPathFitCause job bytes halt = HasPlainCause job.fit bytes halt ⊎ LacksPathFit job bytes halt
 
 -- why there is no report for the job
 abbrev pub HasCause : Job → List ℕ → Halt → Type 0

@@ -1,17 +1,13 @@
 -- Inner. Why an input has no certificate, step by step.
-use Rattle.std.specs.Prelude.{List, length, ⊤}
+use Rattle.std.specs.Prelude.{List, ⊤}
 use Rattle.frac_core.specs.declared.frac128.Frac128.{Frac128}
 use Rattle.loss_model.specs.declared.interval.Interval.{Interval}
 use Rattle.rank_walk_model.specs.Intervals.{stated}
 use Rattle.cert_text.specs.Kept.{IsKeptInterval}
 use Rattle.cert_text.specs.declared.cert.Cert.{Cert}
-use Rattle.rq_input.specs.declared.input.Input.{Input}
-use Rattle.rq_words.specs.declared.job.FitJob.{FitJob}
 use Rattle.report_text.specs.declared.report.Refusal.TheVariants.{CertTooLong}
 use Rattle.report_text.specs.declared.report.Halt.{Halt}
 use Rattle.report_text.specs.declared.report.Halt.TheVariants.{Refused, OutOfMemory}
-use Rattle.rq_engine.specs.Stops.{HasProblemCause}
-use Rattle.rq_engine.specs.Answers.{IsCertified}
 use Rattle.rq_engine.specs.Certificates.{IsTooLong}
 
 -- a certificate with this interval can be kept, whatever factors are listed
@@ -23,8 +19,3 @@ abbrev pub IsLengthHalt : Cert → Halt → Type 0
 IsLengthHalt cert OutOfMemory = ⊤
 IsLengthHalt cert (Refused (CertTooLong n)) = IsTooLong cert n
 IsLengthHalt cert halt = ⊥
-
--- the problem of the input has no fit, or its certificate is too long
-abbrev pub HasCertifiedCause : FitJob → Input → Halt → Type 0
-HasCertifiedCause job input (Refused (CertTooLong n)) = (cert : Cert) × IsCertified job input cert × IsTooLong cert n
-HasCertifiedCause job input halt = HasProblemCause job (length input.design.rows) input.problem halt

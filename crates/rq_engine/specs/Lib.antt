@@ -4,6 +4,7 @@ pub mod Fit
 pub mod Halts
 pub mod Intervals
 pub mod Lacking
+pub mod PathHalts
 pub mod Paths
 pub mod Predicted
 pub mod RankProblems

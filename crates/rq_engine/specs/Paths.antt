@@ -11,8 +11,6 @@ use Rattle.tau_process.specs.Stops.{IsProcessSpill}
 use Rattle.tv_penalty.specs.Operations.{OverflowsFirst}
 use Rattle.lambda_path.specs.Faults.{path_operations, row_count}
 use Rattle.lambda_path.specs.Paths.{IsPathOf}
-use Rattle.lambda_path.specs.declared.fault.PathFault.{PathFault}
-use Rattle.lambda_path.specs.declared.fault.PathFault.TheVariants as faults
 use Rattle.rq_words.specs.declared.job.PathJob.{PathJob}
 use Rattle.report_text.specs.declared.report.PathFit.{PathFit}
 use Rattle.rq_program.specs.declared.fault.ProgramFault.TheVariants.{TooManyRows}
@@ -67,9 +65,3 @@ HasPathCause job plain (Overflow places.Path trail spill) =
     (trail ≡ no_trail) × (row_count plain.input.problem (first_penalised plain.intercept) ≤ most_rows)
     × OverflowsFirst (path_operations plain.input.problem (exact job.tau)) spill
 HasPathCause job plain _ = ⊥
-
--- the halt of a path problem that can't be made
-abbrev pub path_halt : PathFault → Halt
-path_halt faults.OutOfMemory = OutOfMemory
-path_halt faults.TooManyRows = Refused (Program TooManyRows)
-path_halt (faults.Overflow spill) = Overflow places.Path no_trail spill

@@ -6,9 +6,9 @@ ghost use Rattle.cert_text.specs.Limits.{most_sides};
 ghost use Rattle.rq_input.specs.Rows.{HasRows};
 ghost use Rattle.rq_engine.specs.Asks.{IsFitAsk};
 ghost use Rattle.rq_engine.specs.Intervals.{HasFactors};
-ghost use Rattle.rq_engine.specs.Answers.{HasCertifyCause, IsCertified, IsCertifiedOfBytes};
+ghost use Rattle.rq_engine.specs.Answers.{HasCertifiedCause, HasCertifyCause, IsCertified, IsCertifiedOfBytes};
 ghost use Rattle.rq_engine.specs.Certificates.{IsCertificateOf, IsWritten, sides_of};
-ghost use Rattle.rq_engine.specs.Certifying.{HasCertifiedCause, IsKept, IsLengthHalt};
+ghost use Rattle.rq_engine.specs.Certifying.{IsKept, IsLengthHalt};
 
 use crate::fit::fit_input;
 use cert_text::{Cert, write_cert};

@@ -5,7 +5,8 @@ ghost use Rattle.report_text.specs.declared.report.Report.TheVariants as reports
 ghost use Rattle.rq_input.specs.Rows.{HasRows};
 ghost use Rattle.rq_input.specs.PlainRows.{HasIntercept};
 ghost use Rattle.rq_engine.specs.Asks.{IsPathAsk};
-ghost use Rattle.rq_engine.specs.Paths.{HasPathCause, IsPathFitOf, first_penalised as first_penalised_of, path_halt as path_halt_of};
+ghost use Rattle.rq_engine.specs.Paths.{HasPathCause, IsPathFitOf, first_penalised as first_penalised_of};
+ghost use Rattle.rq_engine.specs.PathHalts.{path_halt as path_halt_of};
 ghost use Rattle.rq_engine.specs.Answers.{HasPathFitCause, IsPathFitOfBytes};
 
 use crate::halt::stop_halt;

@@ -1,6 +1,6 @@
 -- A job whose input is well formed is answered.
 use Rattle.std.specs.Prelude.{◌≡◌, ◌≢◌, ℕ, ◌+◌, ◌*◌, ◌<◌, ◌≤◌, Bool, true, false, is_some, List, Some, length}
-use Rattle.std.proofs.Common.{arith, refl, sym, subst, ◌∙◌}
+use Rattle.std.proofs.Common.{arith, inl, inr, refl, sym, subst, ◌∙◌}
 use Rattle.frac_core.specs.declared.frac128.Frac128.{Frac128}
 use Rattle.frac_core.specs.Values.{value}
 use Rattle.loss_model.specs.declared.problem.Problem.{Problem}
@@ -28,7 +28,7 @@ use Rattle.rq_input.specs.Predictions.{HasPredictionCause}
 use Rattle.rq_input.specs.declared.input.Input.{Input}
 use Rattle.rq_engine.specs.Fit.{IsFitOf, IsRightProcess}
 use Rattle.rq_engine.specs.Answers as engine
-use Rattle.rq_engine.specs.Answers.{IsRight, HasFitCause, HasCertifyCause, HasPredictCause}
+use Rattle.rq_engine.specs.Answers.{IsRight, HasFitCause, HasCertifyCause, HasPredictCause, LacksFit, LacksPredictFit}
 use Rattle.rq_engine.specs.Jobs.{IsJobOf, sample_fit}
 use Rattle.rq_cli.specs.Outcomes.{Stream, IsRun, IsAnswered, IsHalted, IsTooLong, Takes, WereRead}
 use Rattle.rq_cli.specs.declared.outcome.Outcome.{Outcome}
@@ -99,24 +99,12 @@ module _ (lawful : PathHasCosts) (words : List (List ℕ)) (source source' : Str
   same_bytes job other read = same_table words source source' bytes w.fit w.ranked w.asked w.told job read.asked job other read
 
   sound : (fit : FitJob) (ranked : Bool) (refusal : Refusal) (asked : AskFit words fit ranked) → ¬ HasFitCause fit ranked (table_bytes asked.job bytes) (halts.Refused refusal)
-  sound fit ranked refusal asked cause = by refusal cause
+  sound fit ranked refusal asked (inl cause) = w.sound fit ranked asked refusal cause
+  sound fit ranked refusal asked (inr lacks) = by refusal lacks
     where
-      by : (refusal : Refusal) → HasFitCause fit ranked (table_bytes asked.job bytes) (halts.Refused refusal) → ⊥
+      by : (refusal : Refusal) → ¬ LacksFit fit ranked (table_bytes asked.job bytes) (halts.Refused refusal)
       by (refusals.Dependent combination) h = dependent (sample value h.input.problem) _ h.cause.dependence (w.rank fit ranked h.input asked h.is)
-      by refusals.TooLong h = w.sound fit ranked asked refusals.TooLong h
-      by (refusals.Table fault) h = w.sound fit ranked asked (refusals.Table fault) h
-      by (refusals.Formula fault) h = w.sound fit ranked asked (refusals.Formula fault) h
-      by refusals.RankWithPenalty h = w.sound fit ranked asked refusals.RankWithPenalty h
-      by refusals.SmoothNotTaken h = w.sound fit ranked asked refusals.SmoothNotTaken h
-      by (refusals.Design fault) h = w.sound fit ranked asked (refusals.Design fault) h
-      by (refusals.Penalty fault) h = w.sound fit ranked asked (refusals.Penalty fault) h
-      by (refusals.Program fault) h = w.sound fit ranked asked (refusals.Program fault) h
-      by refusals.NothingToPredict h = w.sound fit ranked asked refusals.NothingToPredict h
-      by (refusals.NoSuchColumn number) h = w.sound fit ranked asked (refusals.NoSuchColumn number) h
-      by refusals.AllTested h = w.sound fit ranked asked refusals.AllTested h
-      by (refusals.TooManyPredictions found) h = w.sound fit ranked asked (refusals.TooManyPredictions found) h
-      by (refusals.CertTooLong length) h = w.sound fit ranked asked (refusals.CertTooLong length) h
-      by (refusals.Certificate fault) h = w.sound fit ranked asked (refusals.Certificate fault) h
+      by refusal h = h.cause
 
   fit_refused : (fit : FitJob) (ranked : Bool) (job : Job) → IsFitJob job fit ranked → (refusal : Refusal) (other : List ℕ) → WereRead words source source' job other → ¬ HasFitCause fit ranked (table_bytes job other) (halts.Refused refusal)
   fit_refused fit ranked job is refusal other read cause =
@@ -125,22 +113,28 @@ module _ (lawful : PathHasCosts) (words : List (List ℕ)) (source source' : Str
 
   -- the certificate that is too long aside, no certificate is refused but as a fit is
   certify_refused : (fit : FitJob) (refusal : Refusal) → ((n : ℕ) → refusal ≢ refusals.CertTooLong n) → (other : List ℕ) → WereRead words source source' (jobs.Certify fit) other → ¬ HasCertifyCause fit other (halts.Refused refusal)
-  certify_refused fit (refusals.CertTooLong n) short other read cause = short n refl
-  certify_refused fit refusal short other read cause = fit_refused fit (is_some fit.rank) (jobs.Certify fit) (refl, refl) refusal other read cause
+  certify_refused fit refusal short other read cause = by refusal short cause
+    where
+      none : (refusal : Refusal) → ¬ HasFitCause fit (is_some fit.rank) other (halts.Refused refusal)
+      none refusal = fit_refused fit (is_some fit.rank) (jobs.Certify fit) (refl, refl) refusal other read
+
+      by : (refusal : Refusal) → ((n : ℕ) → refusal ≢ refusals.CertTooLong n) → ¬ HasCertifyCause fit other (halts.Refused refusal)
+      by (refusals.CertTooLong n) short cause = short n refl
+      by refusal short (inl cause) = none refusal (inl cause)
+      by refusal short (inr lacks) = none refusal (inr (record { input = lacks.input; is = lacks.is; rows = lacks.rows; cause = lacks.cause }))
 
   -- predictions are refused neither as a fit is nor as those
   predict_refused : (fit : FitJob) (refusal : Refusal) (other : List ℕ) → WereRead words source source' (jobs.Predict fit) other → ¬ HasPredictCause fit other (halts.Refused refusal)
-  predict_refused fit refusal other read cause = by refusal cause
+  predict_refused fit refusal other read (inl cause) =
+      w.predicted fit refusal read.asked (subst (λ b. HasPredictionCause fit b (halts.Refused refusal)) (same_bytes (jobs.Predict fit) other read) cause)
+  predict_refused fit refusal other read (inr lacks) = by refusal lacks
     where
-      none : (refusal : Refusal) → HasPredictionCause fit other (halts.Refused refusal) → ⊥
-      none refusal h = w.predicted fit refusal read.asked (subst (λ b. HasPredictionCause fit b (halts.Refused refusal)) (same_bytes (jobs.Predict fit) other read) h)
-
-      by : (refusal : Refusal) → HasPredictCause fit other (halts.Refused refusal) → ⊥
+      by : (refusal : Refusal) → ¬ LacksPredictFit fit other (halts.Refused refusal)
       by (refusals.Dependent combination) h =
           dependent (sample value h.asked.input.problem) _ h.cause.dependence
           (w.rank fit true h.asked.input (record { job = jobs.Predict fit; asked = read.asked; is = (refl, refl) })
           (subst (λ b. IsInput fit true b h.asked.input) (same_bytes (jobs.Predict fit) other read) (asked_input fit other h.asked h.is)))
-      by refusal h = none refusal h
+      by refusal h = h.cause
 
   not_refused : (refusal : Refusal) → ((n : ℕ) → refusal ≢ refusals.CertTooLong n) → ¬ IsHalted words source source' (halts.Refused refusal)
   not_refused refusal short h = by h.job h.read h.cause

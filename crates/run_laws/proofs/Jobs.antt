@@ -1,5 +1,5 @@
 -- What is to be said of each job, in a table here alone: which of them fit a table as it is, and what a halt says of each.
-use Rattle.std.specs.Prelude.{◌≡◌, ◌⊎◌, ℕ, Bool, true, false, is_some, List}
+use Rattle.std.specs.Prelude.{◌≡◌, ◌⊎◌, ℕ, Bool, true, false, is_some, List, length}
 use Rattle.std.proofs.Common.{refl, sym, inl, inr, ◌∙◌}
 use Rattle.frac_core.specs.declared.frac128.Frac128.{Frac128}
 use Rattle.loss_model.specs.declared.process.Trail.{Trail}
@@ -15,15 +15,21 @@ use Rattle.report_text.specs.declared.report.Place.{Place}
 use Rattle.report_text.specs.declared.report.Refusal.TheVariants.{CertTooLong, Dependent}
 use Rattle.report_text.specs.declared.report.Halt.{Halt}
 use Rattle.report_text.specs.declared.report.Halt.TheVariants.{Refused, PivotLimit, Overflow, Rejected}
+use Rattle.rq_input.specs.Inputs.{HasInputCause}
+use Rattle.rq_input.specs.Plain.{HasPlainCause}
+use Rattle.rq_input.specs.Predictions.{HasPredictionCause}
+use Rattle.rq_input.specs.Tested.{HasTestedCause}
+use Rattle.rq_input.specs.declared.input.Input.{Input}
 use Rattle.rq_engine.specs.Asks.{IsFitAsk}
 use Rattle.rq_engine.specs.Answers as engine
-use Rattle.rq_engine.specs.Answers.{HasCertifyCause, HasFitCause, HasLongCertificate, HasPathFitCause, HasPredictCause, HasTestFitCause, LacksFit, LacksPathFit, LacksPredictFit, LacksTestFit}
+use Rattle.rq_engine.specs.Answers.{HasCertifiedCause, HasFitCause, LacksFit, LacksPathFit, LacksPredictFit, LacksTestFit}
+use Rattle.rq_engine.specs.Stops.{HasProblemCause}
 use Rattle.rq_engine.specs.Checks.{HasCheckCause}
 use Rattle.rq_engine.specs.Jobs.{IsJobOf, sample_fit}
 use Rattle.rq_engine.proofs.Asked.{asked_job}
 use Rattle.rq_engine.proofs.Scoring.{unit_ask}
 use Rattle.rq_cli.specs.Outcomes.{Stream, IsHalted, WereRead}
-use Rattle.run_laws.specs.NeededOutcomes.{AskFit, IsFitJob, WasInput, table_bytes}
+use Rattle.run_laws.specs.NeededOutcomes.{AskFit, HasLongCertificate, IsFitJob, WasInput, table_bytes}
 use Rattle.run_laws.proofs.AskedInputs.{asked_input}
 
 -- ---- words
@@ -54,6 +60,11 @@ pub fitting : (words : List (List ℕ)) (fit : FitJob) (ranked : Bool) → AskFi
 fitting words fit ranked asked job again = also_fitting asked.job job (fit, ranked, asked.is) (one_request words asked.job job asked.asked again)
 
 -- ---- halts
+
+-- the second of two, where the first can't be
+pub second_of : {A B : Type 0} → A ⊎ B → ¬ A → B
+second_of (inl a) none = absurd (none a)
+second_of (inr b) none = b
 
 module _ (words : List (List ℕ)) (source source' : Stream) where
   -- the problem of this input of a fit has none, for this halt
@@ -101,17 +112,19 @@ module _ (words : List (List ℕ)) (source source' : Stream) where
     NoPath : IsPathHalt halt → Lacks halt
     NoVerdict : IsCheckHalt halt → Lacks halt
 
+  -- a halt of which the input is never the cause
   module _ (halt : Halt)
-      (of_fit : (fit : FitJob) (ranked : Bool) (bytes : List ℕ) → HasFitCause fit ranked bytes halt → LacksFit fit ranked bytes halt)
-      (of_certify : (fit : FitJob) (bytes : List ℕ) → HasCertifyCause fit bytes halt → LacksFit fit (is_some fit.rank) bytes halt)
-      (of_predict : (fit : FitJob) (bytes : List ℕ) → HasPredictCause fit bytes halt → LacksPredictFit fit bytes halt)
-      (of_test : (job : TestJob) (bytes : List ℕ) → HasTestFitCause job bytes halt → LacksTestFit job bytes halt)
-      (of_path : (job : PathJob) (bytes : List ℕ) → HasPathFitCause job bytes halt → LacksPathFit job bytes halt) where
+      (input : (fit : FitJob) (ranked : Bool) (bytes : List ℕ) → ¬ HasInputCause fit ranked bytes halt)
+      (tested : (job : TestJob) (bytes : List ℕ) → ¬ HasTestedCause job bytes halt)
+      (plain : (fit : FitJob) (bytes : List ℕ) → ¬ HasPlainCause fit bytes halt)
+      (prediction : (fit : FitJob) (bytes : List ℕ) → ¬ HasPredictionCause fit bytes halt)
+      (certified : (fit : FitJob) (input : Input) → HasCertifiedCause fit input halt → HasProblemCause fit (length input.design.rows) input.problem halt) where
     lacks : IsHalted words source source' halt → Lacks halt
     lacks h = by h.job h.read h.cause
       where
-        fit_halt : (fit : FitJob) → IsFitAsk fit → (ranked : Bool) (job : Job) → IsFitJob job fit ranked → WereRead words source source' job h.bytes → LacksFit fit ranked (table_bytes job h.bytes) halt → Lacks halt
-        fit_halt fit ask ranked job is read none =
+        fit_halt : (fit : FitJob) → IsFitAsk fit → (ranked : Bool) (job : Job) → IsFitJob job fit ranked → WereRead words source source' job h.bytes → HasFitCause fit ranked (table_bytes job h.bytes) halt → Lacks halt
+        fit_halt fit ask ranked job is read cause =
+            let none = second_of cause (input fit ranked (table_bytes job h.bytes)) in
             NoFit (record {
               fit = fit;
               ask = ask;
@@ -122,13 +135,15 @@ module _ (words : List (List ℕ)) (source source' : Stream) where
             })
 
         by : (job : Job) → WereRead words source source' job h.bytes → engine.HasCause job h.bytes halt → Lacks halt
-        by (jobs.Process fit) read cause = fit_halt fit (asked_job words (jobs.Process fit) read.asked).0 (is_some fit.rank) (jobs.Process fit) (refl, refl) read (of_fit fit (is_some fit.rank) h.bytes cause)
-        by (jobs.Ranks fit) read cause = fit_halt fit (unit_ask fit (asked_job words (jobs.Ranks fit) read.asked).0) true (jobs.Ranks fit) (refl, refl) read (of_fit fit true h.bytes cause)
-        by (jobs.Certify fit) read cause = fit_halt fit (asked_job words (jobs.Certify fit) read.asked).0 (is_some fit.rank) (jobs.Certify fit) (refl, refl) read (of_certify fit h.bytes cause)
-        by (jobs.Sample job) read cause =
-            fit_halt (sample_fit job) (asked_job words (jobs.Sample job) read.asked).ask false (jobs.Sample job) (refl, refl) read (of_fit (sample_fit job) false (table_bytes (jobs.Sample job) h.bytes) cause)
+        by (jobs.Process fit) read cause = fit_halt fit (asked_job words (jobs.Process fit) read.asked).0 (is_some fit.rank) (jobs.Process fit) (refl, refl) read cause
+        by (jobs.Ranks fit) read cause = fit_halt fit (unit_ask fit (asked_job words (jobs.Ranks fit) read.asked).0) true (jobs.Ranks fit) (refl, refl) read cause
+        by (jobs.Sample job) read cause = fit_halt (sample_fit job) (asked_job words (jobs.Sample job) read.asked).ask false (jobs.Sample job) (refl, refl) read cause
+        by (jobs.Certify fit) read cause =
+            let none = second_of cause (input fit (is_some fit.rank) h.bytes) in
+            fit_halt fit (asked_job words (jobs.Certify fit) read.asked).0 (is_some fit.rank) (jobs.Certify fit) (refl, refl) read
+            (inr (record { input = none.input; is = none.is; rows = none.rows; cause = certified fit none.input none.cause }))
         by (jobs.Predict fit) read cause =
-            let none = of_predict fit h.bytes cause in
+            let none = second_of cause (prediction fit h.bytes) in
             NoPredictions (record {
               fit = fit;
               ask = (asked_job words (jobs.Predict fit) read.asked).0;
@@ -136,20 +151,21 @@ module _ (words : List (List ℕ)) (source source' : Stream) where
               lacks = none;
               was = record { ranked = true; bytes = h.bytes; asked = record { job = jobs.Predict fit; asked = read.asked; is = (refl, refl) }; read = (jobs.Predict fit, read); is = asked_input fit h.bytes none.asked none.is };
             })
-        by (jobs.Test job) read cause = NoTest (record { job = job; bytes = h.bytes; read = read; lacks = of_test job h.bytes cause })
-        by (jobs.Path job) read cause = NoPath (record { job = job; bytes = h.bytes; read = read; lacks = of_path job h.bytes cause })
+        by (jobs.Test job) read cause = NoTest (record { job = job; bytes = h.bytes; read = read; lacks = second_of cause (tested job h.bytes) })
+        by (jobs.Path job) read cause = NoPath (record { job = job; bytes = h.bytes; read = read; lacks = second_of cause (plain job.fit h.bytes) })
         by jobs.Check read cause = NoVerdict (record { bytes = h.bytes; read = read; cause = cause })
 
   pub limit_lacks : (place : Place) (limit : ℕ) (trail : Trail Frac128) → IsHalted words source source' (PivotLimit place limit trail) → Lacks (PivotLimit place limit trail)
-  limit_lacks place limit trail = lacks (PivotLimit place limit trail) (λ fit ranked bytes h. h) (λ fit bytes h. h) (λ fit bytes h. h) (λ job bytes h. h) (λ job bytes h. h)
+  limit_lacks place limit trail =
+      lacks (PivotLimit place limit trail) (λ fit ranked bytes h. h.2.cause) (λ job bytes h. h.2.cause) (λ fit bytes h. h.2.cause) (λ fit bytes h. h.2.cause) (λ fit input h. h)
 
   pub overflow_lacks : (place : Place) (trail : Trail Frac128) (spill : Spill Frac128) → IsHalted words source source' (Overflow place trail spill) → Lacks (Overflow place trail spill)
-  overflow_lacks place trail spill = lacks (Overflow place trail spill) (λ fit ranked bytes h. h) (λ fit bytes h. h) (λ fit bytes h. h) (λ job bytes h. h) (λ job bytes h. h)
+  overflow_lacks place trail spill =
+      lacks (Overflow place trail spill) (λ fit ranked bytes h. h.2.cause) (λ job bytes h. h.2.cause) (λ fit bytes h. h.2.cause) (λ fit bytes h. h.2.cause) (λ fit input h. h)
 
-  -- no path is refused for dependent columns
   pub dependence_lacks : (combination : List Frac128) → IsHalted words source source' (Refused (Dependent combination)) → Lacks (Refused (Dependent combination))
   dependence_lacks combination =
-      lacks (Refused (Dependent combination)) (λ fit ranked bytes h. h) (λ fit bytes h. h) (λ fit bytes h. h) (λ job bytes h. h) (λ job bytes h. absurd h.2.cause)
+      lacks (Refused (Dependent combination)) (λ fit ranked bytes h. h.2.cause) (λ job bytes h. h.2.cause) (λ fit bytes h. h.2.cause) (λ fit bytes h. h.2.cause) (λ fit input h. h)
 
   -- a certificate that is too long is one that the words ask for
   pub long_certificate : (n : ℕ) → IsHalted words source source' (Refused (CertTooLong n)) → (fit : FitJob) × (bytes : List ℕ) × WereRead words source source' (jobs.Certify fit) bytes × HasLongCertificate fit bytes n
@@ -157,9 +173,10 @@ module _ (words : List (List ℕ)) (source source' : Stream) where
     where
       by : (job : Job) → WereRead words source source' job h.bytes → engine.HasCause job h.bytes (Refused (CertTooLong n))
           → (fit : FitJob) × (bytes : List ℕ) × WereRead words source source' (jobs.Certify fit) bytes × HasLongCertificate fit bytes n
-      by (jobs.Certify fit) read cause = (fit, h.bytes, read, cause)
+      by (jobs.Certify fit) read (inr none) = (fit, h.bytes, read, record { cert = none.cause.0; right = (none.input, none.is, none.cause.1); long = none.cause.2 })
       by jobs.Check read cause = absurd cause
-      by job read cause = absurd cause.2.cause
+      by job read (inl cause) = absurd cause.2.cause
+      by job read (inr none) = absurd none.cause
 
   -- what is rejected was to be checked
   pub rejected_check : (rejection : Rejection) → IsHalted words source source' (Rejected rejection) → IsJobOf words jobs.Check
@@ -167,7 +184,8 @@ module _ (words : List (List ℕ)) (source source' : Stream) where
     where
       by : (job : Job) → WereRead words source source' job h.bytes → engine.HasCause job h.bytes (Rejected rejection) → IsJobOf words jobs.Check
       by jobs.Check read cause = read.asked
-      by job read cause = absurd cause.2.cause
+      by job read (inl cause) = absurd cause.2.cause
+      by job read (inr none) = absurd none.cause
 
   -- where the words ask for a fit, a halt is of one or of predictions
   pub fit_lacks : (first : FitJob) (kind : Bool) → AskFit words first kind → (halt : Halt) → Lacks halt → IsFitHalt halt ⊎ IsPredictHalt halt

@@ -42,6 +42,7 @@ use Rattle.run_laws.specs.NeededOutcomes.{WasRestricted, WasTested}
 use Rattle.run_laws.specs.TestReports.{IsRightTest}
 use Rattle.run_laws.proofs.Answering.{answered_with, no_report, not_too_long, unfitted_with}
 use Rattle.run_laws.proofs.Complete.{none_beyond, were_told}
+use Rattle.run_laws.proofs.Jobs.{second_of}
 use Rattle.run_laws.proofs.OnlyJob.{only_halted, only_reported}
 use Rattle.run_laws.proofs.Stopless.{unposed_without}
 
@@ -65,9 +66,14 @@ module _ (words : List (List ℕ)) (first : TestJob) (asked : IsJobOf words (job
     reported : (report : Report) → IsAnswered words source source' report → (job : TestJob) × (bytes : List ℕ) × WereRead words source source' (jobs.Test job) bytes × IsRight (jobs.Test job) bytes report
     reported = only_reported jobs.Test words alone source source'
 
+    -- where the input isn't its cause, it is that an input has no test
+    lacking : (halt : Halt) → ((job : TestJob) (other : List ℕ) → ¬ HasTestedCause job other halt) → IsHalted words source source' halt
+        → (job : TestJob) × (other : List ℕ) × WereRead words source source' (jobs.Test job) other × LacksTestFit job other halt
+    lacking halt none h = let p = halted halt h in (p.0, p.1, p.2, second_of p.3 (none p.0 p.1))
+
     -- none of them has a certificate
     too_long : (n : ℕ) → ¬ IsHalted words source source' (halts.Refused (refusals.CertTooLong n))
-    too_long n h = (halted (halts.Refused (refusals.CertTooLong n)) h).3.2.cause
+    too_long n h = (lacking (halts.Refused (refusals.CertTooLong n)) (λ job other cause. cause.2.cause) h).3.cause
 
     -- ---- limits
 
@@ -96,9 +102,8 @@ module _ (words : List (List ℕ)) (first : TestJob) (asked : IsJobOf words (job
 
         limits : (place : Place) (limit : ℕ) (trail : Trail Frac128) → ¬ IsHalted words source source' (halts.PivotLimit place limit trail)
         limits place limit trail h =
-            let p = halted (halts.PivotLimit place limit trail) h in
-            let lacks : LacksTestFit p.0 p.1 (halts.PivotLimit place limit trail) = p.3 in
-            dependent p.0 lacks.input (record { bytes = p.1; read = p.2; is = lacks.is }) lacks.cause.0
+            let p = lacking (halts.PivotLimit place limit trail) (λ job other cause. cause.2.cause) h in
+            dependent p.0 p.3.input (record { bytes = p.1; read = p.2; is = p.3.is }) p.3.cause.0
 
     -- ---- faults
 
@@ -109,8 +114,8 @@ module _ (words : List (List ℕ)) (first : TestJob) (asked : IsJobOf words (job
           let fault = faulty job read.asked in
           law job bytes input fault.0 (subst (λ b. IsTested job b input) (were_told source source' bytes told other read.taken) is) shaped fault.1
 
-      lacking : (halt : Halt) → ((job : TestJob) (other : List ℕ) → HasTestFitCause job other halt → LacksTestFit job other halt) → ¬ IsHalted words source source' halt
-      lacking halt lacks h = let p = halted halt h in let l = lacks p.0 p.1 p.3 in no_input p.0 p.1 p.2 l.input l.is l.rows.shaped
+      stopped : (halt : Halt) → ((job : TestJob) (other : List ℕ) → ¬ HasTestedCause job other halt) → ¬ IsHalted words source source' halt
+      stopped halt none h = let p = lacking halt none h in no_input p.0 p.1 p.2 p.3.input p.3.is p.3.rows.shaped
 
       no_test : (report : Report) → IsAnswered words source source' report → ⊥
       no_test report a =
@@ -120,9 +125,9 @@ module _ (words : List (List ℕ)) (first : TestJob) (asked : IsJobOf words (job
 
       pub test_unposed : (out out' err err' : Stream) (outcome : Outcome) → IsRun words source source' out out' err err' outcome → IsUnposed outcome
       test_unposed =
-          unposed_without words source source' no_test (λ combination. lacking (halts.Refused (refusals.Dependent combination)) (λ job other cause. cause)) too_long
-          (λ place limit trail. lacking (halts.PivotLimit place limit trail) (λ job other cause. cause))
-          (λ place trail spill. lacking (halts.Overflow place trail spill) (λ job other cause. cause))
+          unposed_without words source source' no_test (λ combination. stopped (halts.Refused (refusals.Dependent combination)) (λ job other cause. cause.2.cause)) too_long
+          (λ place limit trail. stopped (halts.PivotLimit place limit trail) (λ job other cause. cause.2.cause))
+          (λ place trail spill. stopped (halts.Overflow place trail spill) (λ job other cause. cause.2.cause))
 
 -- ---- an answer
 
@@ -137,11 +142,12 @@ module _ (lawful : PathHasCosts) (words : List (List ℕ)) (source source' : Str
       p = halted words w.first w.asked source source' (halts.Refused refusal) h
 
       by : (refusal : Refusal) → HasTestFitCause p.0 bytes (halts.Refused refusal) → ⊥
-      by (refusals.Dependent combination) lacks = dependent (sample value lacks.input.problem) _ lacks.cause.dependence (w.rank p.0 lacks.input p.2.asked lacks.is)
-      by refusal cause = w.sound p.0 refusal p.2.asked cause
+      by refusal (inl cause) = w.sound p.0 refusal p.2.asked cause
+      by (refusals.Dependent combination) (inr lacks) = dependent (sample value lacks.input.problem) _ lacks.cause.dependence (w.rank p.0 lacks.input p.2.asked lacks.is)
+      by refusal (inr lacks) = lacks.cause
 
   rejected : (rejection : Rejection) → ¬ IsHalted words source source' (halts.Rejected rejection)
-  rejected rejection h = (halted words w.first w.asked source source' (halts.Rejected rejection) h).3.2.cause
+  rejected rejection h = (lacking words w.first w.asked source source' (halts.Rejected rejection) (λ job other cause. cause.2.cause) h).3.cause
 
   right : (report : Report) → IsAnswered words source source' report → (job : Job) × IsJobOf words job × IsRight job bytes report
   right report a =

@@ -1,5 +1,5 @@
 -- A job that asks for a path is answered; and where its bytes have a fault, there is no report and no stop.
-use Rattle.std.specs.Prelude.{◌≡◌, ◌⊎◌, ℕ, ◌<◌, ◌≤◌, List, Some}
+use Rattle.std.specs.Prelude.{◌≡◌, ℕ, ◌<◌, ◌≤◌, List, Some}
 use Rattle.std.proofs.Common.{arith, inl, inr, refl, sym, subst, ◌∙◌}
 use Rattle.frac_core.specs.Limits.{most_rows}
 use Rattle.frac_core.specs.declared.frac128.Frac128.{Frac128}
@@ -37,6 +37,7 @@ use Rattle.run_laws.specs.Completeness.{HasPathFault, IsAnswer, IsAtPath, IsAtPr
 use Rattle.run_laws.specs.NeededOutcomes.{WasPath}
 use Rattle.run_laws.proofs.Answering.{answered_with, not_too_long}
 use Rattle.run_laws.proofs.Complete.{none_beyond, were_told}
+use Rattle.run_laws.proofs.Jobs.{second_of}
 use Rattle.run_laws.proofs.OnlyJob.{only_halted, only_reported}
 use Rattle.run_laws.proofs.Stopless.{unposed_without}
 
@@ -49,12 +50,10 @@ right_path job bytes report right = absurd right
 few_rows : (job : PathJob) (plain : PlainInput) (q : Problem Frac128) → IsPathProblem job plain q → IsWellShaped q → path_rows plain ≤ most_rows
 few_rows job plain q path shaped = subst (λ n. n ≤ most_rows) path.rows shaped.rows
 
--- of the bytes of a path that is refused there is no input, or it has too many rows
-no_plain : (job : PathJob) (bytes : List ℕ) (refusal : Refusal) → HasPathFitCause job bytes (halts.Refused refusal)
-    → HasPlainCause job.fit bytes (halts.Refused refusal) ⊎ ((plain : PlainInput) × IsPlain job.fit bytes plain × (most_rows < path_rows plain))
-no_plain job bytes (refusals.Program programs.TooManyRows) (inl h) = inl h
-no_plain job bytes (refusals.Program programs.TooManyRows) (inr h) = inr (h.plain, h.is, h.cause)
-no_plain job bytes refusal h = inl h
+-- an input that has no path and is refused has too many rows
+many_rows : (job : PathJob) (bytes : List ℕ) (refusal : Refusal) (lacks : LacksPathFit job bytes (halts.Refused refusal)) → most_rows < path_rows lacks.plain
+many_rows job bytes (refusals.Program programs.TooManyRows) lacks = lacks.cause
+many_rows job bytes refusal lacks = absurd lacks.cause
 
 module _ (words : List (List ℕ)) (first : PathJob) (asked : IsJobOf words (jobs.Path first)) where
   -- words that ask for a path ask for no other job
@@ -71,15 +70,35 @@ module _ (words : List (List ℕ)) (first : PathJob) (asked : IsJobOf words (job
     reported : (report : Report) → IsAnswered words source source' report → (job : PathJob) × (bytes : List ℕ) × WereRead words source source' (jobs.Path job) bytes × IsRight (jobs.Path job) bytes report
     reported = only_reported jobs.Path words alone source source'
 
-    -- none of them has a certificate
+    -- where the input isn't its cause, it is that an input has no path
+    lacking : (halt : Halt) → ((job : PathJob) (other : List ℕ) → ¬ HasPlainCause job.fit other halt) → IsHalted words source source' halt
+        → (job : PathJob) × (other : List ℕ) × WereRead words source source' (jobs.Path job) other × LacksPathFit job other halt
+    lacking halt none h = let p = halted halt h in (p.0, p.1, p.2, second_of p.3 (none p.0 p.1))
+
+    -- so it is of a limit and of an overflow
+    limit_lacking : (place : Place) (limit : ℕ) (trail : Trail Frac128) → IsHalted words source source' (halts.PivotLimit place limit trail)
+        → (job : PathJob) × (other : List ℕ) × WereRead words source source' (jobs.Path job) other × LacksPathFit job other (halts.PivotLimit place limit trail)
+    limit_lacking place limit trail = lacking (halts.PivotLimit place limit trail) (λ job other cause. cause.2.cause)
+
+    overflow_lacking : (place : Place) (trail : Trail Frac128) (spill : Spill Frac128) → IsHalted words source source' (halts.Overflow place trail spill)
+        → (job : PathJob) × (other : List ℕ) × WereRead words source source' (jobs.Path job) other × LacksPathFit job other (halts.Overflow place trail spill)
+    overflow_lacking place trail spill = lacking (halts.Overflow place trail spill) (λ job other cause. cause.2.cause)
+
+    -- no path is refused for dependent columns, none of them has a certificate, and none is rejected
+    independent : (combination : List Frac128) → ¬ IsHalted words source source' (halts.Refused (refusals.Dependent combination))
+    independent combination h = (lacking (halts.Refused (refusals.Dependent combination)) (λ job other cause. cause.2.cause) h).3.cause
+
     too_long : (n : ℕ) → ¬ IsHalted words source source' (halts.Refused (refusals.CertTooLong n))
-    too_long n h = (halted (halts.Refused (refusals.CertTooLong n)) h).3.2.cause
+    too_long n h = (lacking (halts.Refused (refusals.CertTooLong n)) (λ job other cause. cause.2.cause) h).3.cause
+
+    never_rejected : (rejection : Rejection) → ¬ IsHalted words source source' (halts.Rejected rejection)
+    never_rejected rejection h = (lacking (halts.Rejected rejection) (λ job other cause. cause.2.cause) h).3.cause
 
     -- ---- limits
 
     -- a limit is one of the process
     limit_at : (place : Place) (limit : ℕ) (trail : Trail Frac128) → IsHalted words source source' (halts.PivotLimit place limit trail) → IsAtProcess place
-    limit_at place limit trail h = by place (halted (halts.PivotLimit place limit trail) h).3
+    limit_at place limit trail h = by place (limit_lacking place limit trail h).3
       where
         by : {job : PathJob} {bytes : List ℕ} (place : Place) → LacksPathFit job bytes (halts.PivotLimit place limit trail) → IsAtProcess place
         by places.Process h = tt
@@ -87,7 +106,7 @@ module _ (words : List (List ℕ)) (first : PathJob) (asked : IsJobOf words (job
 
     -- and an overflow one of the costs or of the process
     overflow_at : (place : Place) (trail : Trail Frac128) (spill : Spill Frac128) → IsHalted words source source' (halts.Overflow place trail spill) → IsAtPath place
-    overflow_at place trail spill h = by place (halted (halts.Overflow place trail spill) h).3
+    overflow_at place trail spill h = by place (overflow_lacking place trail spill h).3
       where
         by : {job : PathJob} {bytes : List ℕ} (place : Place) → LacksPathFit job bytes (halts.Overflow place trail spill) → IsAtPath place
         by places.Process h = tt
@@ -106,9 +125,9 @@ module _ (words : List (List ℕ)) (first : PathJob) (asked : IsJobOf words (job
       path_limited out out' err err' (Done report) run = none report run.cause
       path_limited out out' err err' (PivotLimit place limit trail) run = limit_at place limit trail run.cause
       path_limited out out' err err' (Overflow place trail spill) run = overflow_at place trail spill run.cause
-      path_limited out out' err err' (Refused (refusals.Dependent combination)) run = (halted (halts.Refused (refusals.Dependent combination)) run.cause).3.2.cause
+      path_limited out out' err err' (Refused (refusals.Dependent combination)) run = independent combination run.cause
       path_limited out out' err err' (Refused (refusals.CertTooLong n)) run = too_long n run.cause
-      path_limited out out' err err' (Rejected rejection) run = (halted (halts.Rejected rejection) run.cause).3.2.cause
+      path_limited out out' err err' (Rejected rejection) run = never_rejected rejection run.cause
       path_limited out out' err err' outcome run = tt
 
     -- ---- faults
@@ -143,9 +162,9 @@ module _ (words : List (List ℕ)) (first : PathJob) (asked : IsJobOf words (job
 
       pub path_unposed : (out out' err err' : Stream) (outcome : Outcome) → IsRun words source source' out out' err err' outcome → IsUnposed outcome
       path_unposed =
-          unposed_without words source source' no_path (λ combination h. (halted (halts.Refused (refusals.Dependent combination)) h).3.2.cause) too_long
-          (λ place limit trail h. let p = halted (halts.PivotLimit place limit trail) h in no_stop p.0 p.1 p.2 place limit trail p.3)
-          (λ place trail spill h. let p = halted (halts.Overflow place trail spill) h in no_spill p.0 p.1 p.2 place trail spill p.3)
+          unposed_without words source source' no_path independent too_long
+          (λ place limit trail h. let p = limit_lacking place limit trail h in no_stop p.0 p.1 p.2 place limit trail p.3)
+          (λ place trail spill h. let p = overflow_lacking place trail spill h in no_spill p.0 p.1 p.2 place trail spill p.3)
 
 -- ---- an answer
 
@@ -157,17 +176,17 @@ module _ (lawful : PathHasCosts) (words : List (List ℕ)) (source source' : Str
   short h = none_beyond source source' bytes w.told w.short h.came
 
   refused : (refusal : Refusal) → ¬ IsHalted words source source' (halts.Refused refusal)
-  refused refusal h = by (no_plain p.0 bytes refusal (subst (λ b. HasPathFitCause p.0 b (halts.Refused refusal)) (whole p.0 p.1 p.2) p.3))
+  refused refusal h = by (subst (λ b. HasPathFitCause p.0 b (halts.Refused refusal)) (whole p.0 p.1 p.2) p.3)
     where
       p : (job : PathJob) × (other : List ℕ) × WereRead words source source' (jobs.Path job) other × HasPathFitCause job other (halts.Refused refusal)
       p = halted words w.first w.asked source source' (halts.Refused refusal) h
 
-      by : HasPlainCause p.0.fit bytes (halts.Refused refusal) ⊎ ((plain : PlainInput) × IsPlain p.0.fit bytes plain × (most_rows < path_rows plain)) → ⊥
+      by : HasPathFitCause p.0 bytes (halts.Refused refusal) → ⊥
       by (inl cause) = w.sound p.0 refusal p.2.asked cause
-      by (inr many) = let few = w.few p.0 many.0 p.2.asked many.1 in omega (arith, few, many.2)
-
-  rejected : (rejection : Rejection) → ¬ IsHalted words source source' (halts.Rejected rejection)
-  rejected rejection h = (halted words w.first w.asked source source' (halts.Rejected rejection) h).3.2.cause
+      by (inr lacks) =
+          let few = w.few p.0 lacks.plain p.2.asked lacks.is in
+          let many = many_rows p.0 bytes refusal lacks in
+          omega (arith, few, many)
 
   right : (report : Report) → IsAnswered words source source' report → (job : Job) × IsJobOf words job × IsRight job bytes report
   right report a =
@@ -177,6 +196,6 @@ module _ (lawful : PathHasCosts) (words : List (List ℕ)) (source source' : Str
   pub path_answered : (out out' err err' : Stream) (outcome : Outcome) → IsRun words source source' out out' err err' outcome → NoneRose source source' out out' err err'
       → IsAnswer words source source' bytes outcome × IsNotTooLong outcome
   path_answered out out' err err' outcome run none = (
-    answered_with lawful words source source' bytes (λ fault unasked. cc (sym unasked ∙ w.asked)) right short (λ refusal long. refused refusal) rejected out out' err err' outcome run none,
+    answered_with lawful words source source' bytes (λ fault unasked. cc (sym unasked ∙ w.asked)) right short (λ refusal long. refused refusal) (never_rejected words w.first w.asked source source') out out' err err' outcome run none,
     not_too_long words source source' (too_long words w.first w.asked source source') out out' err err' outcome run,
   )

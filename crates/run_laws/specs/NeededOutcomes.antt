@@ -15,6 +15,7 @@ use Rattle.pivot_laws.specs.BoundLaws.{further_bases}
 use Rattle.stop_laws.specs.NeededStops.{DoesOverflow}
 use Rattle.rank_inversion.specs.Stops.{IsBound}
 use Rattle.nested_test.specs.Restricted.{restricted_problem}
+use Rattle.cert_text.specs.declared.cert.Cert.{Cert}
 use Rattle.rq_words.specs.declared.job.FitJob.{FitJob}
 use Rattle.rq_words.specs.declared.job.Job.{Job}
 use Rattle.rq_words.specs.declared.job.Job.TheVariants as jobs
@@ -31,7 +32,8 @@ use Rattle.rq_input.specs.declared.input.Input.{Input}
 use Rattle.rq_input.specs.declared.plain.PlainInput.{PlainInput}
 use Rattle.rq_engine.specs.Paths.{IsPathProblem}
 use Rattle.rq_engine.specs.Stops.{most}
-use Rattle.rq_engine.specs.Answers.{HasLongCertificate}
+use Rattle.rq_engine.specs.Answers.{IsCertifiedOfBytes}
+use Rattle.rq_engine.specs.Certificates.{IsTooLong}
 use Rattle.rq_engine.specs.Jobs.{IsJobOf, sample_fit, sample_table}
 use Rattle.rq_cli.specs.Outcomes.{Stream, IsRun, WereRead}
 use Rattle.rq_cli.specs.declared.outcome.Outcome.TheVariants.{Refused, PivotLimit, Overflow}
@@ -151,6 +153,12 @@ DependenceIsNeeded =
     (words : List (List ℕ)) (source source' out out' err err' : Stream) (combination : List Frac128)
     → IsRun words source source' out out' err err' (Refused (Dependent combination))
     → (fit : FitJob) × (input : Input) × WasWhole words source source' fit input × ¬ HasFullRank (sample value input.problem)
+
+-- the certificate of the bytes is too long, and its text has this length
+pub record HasLongCertificate (job : FitJob) (bytes : List ℕ) (n : ℕ) : Type 0 where
+  pub cert : Cert
+  pub right : IsCertifiedOfBytes job bytes cert
+  pub long : IsTooLong cert n
 
 -- CertTooLong comes only where the words ask for a certificate, and that of the bytes is too long
 abbrev pub LengthIsNeeded : Type 0

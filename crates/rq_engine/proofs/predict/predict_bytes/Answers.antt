@@ -1,11 +1,11 @@
+use Rattle.std.proofs.Common.{inl, inr}
 use Rattle.rq_engine.proofs.Causes.{halt_along}
-use Rattle.rq_engine.proofs.Predicting.{input_predict, predicted_predict}
 use Rattle.rq_engine.proofs.predict.predict_bytes.Goals as goal
 
 pub returns-in-Err-clause-cause : goal.returns-in-Err-clause-cause
-returns-in-Err-clause-cause c = input_predict c.args.job.now c.args.bytes.now c.in-Err.halt c.in-Err.ensures.cause
+returns-in-Err-clause-cause c = inl c.in-Err.ensures.cause
 
 pub returns-in-Ok-clause-cause : goal.returns-in-Ok-clause-cause
 returns-in-Ok-clause-cause c =
     halt_along c.predict_input.result _ _ c.predict_input.ensures.cause
-    (predicted_predict c.args.job.now c.args.bytes.now c.in-Ok.asked c.in-Ok.ensures.is c.in-Ok.ensures.rows)
+    (λ halt h. inr (record { asked = c.in-Ok.asked; is = c.in-Ok.ensures.is; rows = c.in-Ok.ensures.rows; cause = h }))
