@@ -6,7 +6,7 @@
 //! what it had to stop for. `reach_in_wholes` gives the basis as whole numbers keep it, for walks that
 //! go on from there. The crate stands on `pivot_model` for the definitions and their laws, and on the loop
 //! of `tableau` for the pivots.
-//! Its tests stand in the crate `solver_tests`.
+//! Its cases stand in `cases`, and its tests in `solver_tests`.
 //!
 //! `rank_inversion` calls it so:
 //! ```text

@@ -6,7 +6,6 @@ use Rattle.rational_laws.specs.Fraction.{Fraction, rational}
 use Rattle.loss_model.specs.declared.interval.Interval.{Interval}
 use Rattle.loss_model.specs.declared.problem.Problem.{Problem}
 use Rattle.loss_model.specs.declared.stop.Stop.{Stop}
-use Rattle.loss_model.specs.declared.stop.Stop.TheVariants as stops
 use Rattle.rank_inversion.specs.declared.column_test.Asked.{Asked}
 use Rattle.rank_inversion.specs.Stops.{IsIntervalStop}
 use Rattle.rank_inversion.specs.declared.asks.IntervalStop.{IntervalStop}

@@ -4,7 +4,7 @@
 //! output, and after every other outcome nothing was, or a part where a write failed, and standard
 //! error has the outcome's line; each outcome has its cause in the words, the bytes and the counts of
 //! faults (`specs/Outcomes.antt`). It stands on `rq_engine` for reports and on `port_io` for streams.
-//! Its tests stand in the crate `edge_tests`.
+//! Its cases stand in `cases`, and its tests in `edge_tests`.
 //!
 //! `program` and `status` hand a run on to `main` as its exit status. `quantreg` calls them so, and a caller that has the
 //! words and the streams itself calls `run`:

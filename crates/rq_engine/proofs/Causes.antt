@@ -1,7 +1,6 @@
 -- What is so of the halt of an answer.
 use Rattle.std.specs.Prelude.{IfErr}
 use Rattle.std.proofs.Common.{Result, Ok, Err}
-use Rattle.report_text.specs.declared.report.Refusal.TheVariants as refusals
 use Rattle.report_text.specs.declared.report.Halt.{Halt}
 
 -- a halt by another name

@@ -42,7 +42,6 @@ use Rattle.report_text.specs.declared.report.Halt.{Halt}
 use Rattle.report_text.specs.declared.report.Place.TheVariants as places
 use Rattle.report_text.specs.declared.report.Halt.TheVariants.{Refused, OutOfMemory, PivotLimit, Overflow}
 use Rattle.report_text.specs.declared.report.Refusal.TheVariants.{Dependent}
-use Rattle.report_text.specs.declared.report.Refusal.TheVariants as refusals
 use Rattle.rq_input.proofs.Lists.{filter_count}
 use Rattle.rq_engine.specs.Fit.{IsOptimalAt, IsOptimalWithin, IsRightFit, IsRightProcess, IsRightSegment, mixed_dual}
 use Rattle.rq_engine.specs.Halts.{interval_halt, short_halt, stop_halt}

@@ -32,9 +32,7 @@ use Rattle.rq_engine.specs.Halts.{stop_halt}
 use Rattle.rq_engine.specs.PathHalts.{path_halt}
 use Rattle.rq_engine.specs.Paths.{HasPathCause, IsPathFitOf, IsPathProblem, first_penalised}
 use Rattle.rq_engine.specs.Stops.{most}
-use Rattle.rq_program.specs.declared.fault.ProgramFault.TheVariants as programs
 use Rattle.report_text.specs.declared.report.Refusal.TheVariants.{Dependent}
-use Rattle.report_text.specs.declared.report.Refusal.TheVariants as refusals
 use Rattle.report_text.specs.declared.report.Halt.TheVariants.{OutOfMemory, PivotLimit, Overflow}
 
 -- the first penalised column is one of them, or the end

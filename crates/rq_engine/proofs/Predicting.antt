@@ -32,7 +32,6 @@ use Rattle.rq_engine.specs.Fit.{IsRightProcess}
 use Rattle.rq_engine.specs.Lacking.{IsUnpredictedRow}
 use Rattle.rq_engine.specs.Predicted.{HasPredictedCause, IsPredictFitOf, IsPredictionBy, IsRowSpill}
 use Rattle.rq_engine.specs.Stops.{most}
-use Rattle.report_text.specs.declared.report.Refusal.TheVariants as refusals
 use Rattle.report_text.specs.declared.report.Halt.TheVariants.{OutOfMemory, Overflow}
 
 module _ (segments : List (Segment Frac128)) (row : PredictRow) where

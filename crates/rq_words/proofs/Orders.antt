@@ -4,10 +4,8 @@ use Rattle.std.proofs.lemmas.Bool.{and_parts}
 use Rattle.clap.specs.Words.{Text}
 use Rattle.rational_laws.specs.Rational.{ℚ, le_ℚ, ◌≤ℚ◌}
 use Rattle.rq_words.specs.Requests.{OptionNumbers, PathRequest, Request}
-use Rattle.rq_words.specs.Requests as request
 use Rattle.rq_words.specs.Words.{zero, one, is_in_order, is_lambda_range, has_range, fault_of, words_of}
 use Rattle.rq_words.specs.declared.command.Kind.{Kind}
-use Rattle.rq_words.specs.declared.command.Kind.TheVariants as kind
 use Rattle.rq_words.specs.declared.job.WordFault.{WordFault}
 use Rattle.rq_words.specs.declared.job.WordFault.TheVariants.{BadRange}
 use Rattle.rq_words.proofs.Requested.{requested}

@@ -9,7 +9,6 @@ use Rattle.rq_words.specs.Requests.{FitRequest, OptionNumbers, RankRequest, Requ
 use Rattle.rq_words.specs.Requests as request
 use Rattle.rq_words.specs.Words.{zero, has_range, is_outside, ascends, fault_of, rank_of, words_of}
 use Rattle.rq_words.specs.declared.command.Kind.{Kind}
-use Rattle.rq_words.specs.declared.command.Kind.TheVariants as kind
 use Rattle.rq_words.specs.declared.job.WordFault.{WordFault}
 use Rattle.rq_words.specs.declared.job.WordFault.TheVariants.{BadRange, BadTauForRank, NegativeLimit, NotAscending, RankHalf}
 use Rattle.rq_words.proofs.Requested.{requested}

@@ -19,7 +19,6 @@ use Rattle.clap.specs.declared.parser.matches.ValueSource.TheVariants.{CommandLi
 use Rattle.clap.specs.declared.builder.value_parser.Reading.{Reading}
 use Rattle.rq_words.specs.Commands.{command_of, options_of, read_by, some_if_none}
 use Rattle.rq_words.specs.Requests.{Request}
-use Rattle.rq_words.specs.Requests as request
 use Rattle.rq_words.specs.Words.{is_long, text_or_empty, words_of}
 use Rattle.rq_words.specs.declared.command.Kind.{Kind}
 use Rattle.rq_words.specs.declared.command.Kind.TheVariants as kind

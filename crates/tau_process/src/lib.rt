@@ -5,7 +5,7 @@
 //! optimal at both of its ends, and the lawful trail that leads through their bases; where it stops
 //! without them, it says what it had to stop for. It stands on the two loops of `tableau`, and on the laws
 //! of `walk_model`.
-//! Its tests stand in the crate `solver_tests`.
+//! Its cases stand in `cases`, and its tests in `solver_tests`.
 //!
 //! `rq_engine` calls it so:
 //! ```text
