@@ -7,7 +7,7 @@
 //!
 //! Everything together costs O(rows * columns) operations on fractions and O(columns^2) more; all
 //! coordinates of a row are looked at only where its residual is 0.
-//! Its cases stand in `cases`, and its tests in `solver_tests`.
+//! Its cases stand in `cases`.
 //!
 //! `fraction_tableau` calls it so:
 //! ```text

@@ -5,7 +5,7 @@
 //! it refuses names the operation that overflows. It stands on `basis_inverse` for the start and the inverse,
 //! on `basic_solution` for the quantities at a basis, and on `lex_rule` for the order of ties. The line search
 //! is that of Barrodale and Roberts (1973).
-//! Its cases stand in `cases`, and its tests in `solver_tests`.
+//! Its cases stand in `cases`.
 //!
 //! `tableau` begins and asks so:
 //! ```text
