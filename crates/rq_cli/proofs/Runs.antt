@@ -29,7 +29,7 @@ tried (Err e) before now line ok err counted = inr (counted.rose, err)
 
 -- the line of a fault is that of the outcome
 pub told_line : (fault : Fault) → fault_line fault ≡ outcome_line (outcome_of fault)
-told_line (faults.Usage fault) = refl
+told_line (faults.Halt (halts.Refused refusal)) = refl
 told_line other = refl
 
 -- the engine never finds an input too long
