@@ -19,7 +19,7 @@ use Rattle.rq_cli.specs.Steps.{outcome_of, WasTold, WasPrinted}
 use Rattle.report_text.specs.declared.report.Fault.{Fault}
 use Rattle.report_text.specs.declared.report.Fault.TheVariants as faults
 use Rattle.rq_cli.specs.declared.outcome.Outcome.{Outcome}
-use Rattle.rq_cli.specs.declared.outcome.Outcome.TheVariants.{Done, Refused, Usage, SourceFault, SinkFault, OutOfMemory}
+use Rattle.rq_cli.specs.declared.outcome.Outcome.TheVariants.{Done, Refused, SourceFault, SinkFault, OutOfMemory}
 
 -- a write whose answer isn't looked at
 pub tried : {T E : Type 0} (r : Result T E) (before now : Stream) (line : List ℕ) → OnOk r (Appends before.bytes now.bytes line) → OnErr r (AppendsPart before.bytes now.bytes line) → CountsFaults before.faults now.faults r
