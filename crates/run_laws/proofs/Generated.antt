@@ -25,6 +25,7 @@ use Rattle.run_laws.specs.Completeness.{IsAnswer, IsGenerated, IsNotTooLong, IsW
 use Rattle.run_laws.specs.NeededOutcomes.{AskFit, IsFitJob, table_bytes}
 use Rattle.run_laws.proofs.Answering.{not_too_long}
 use Rattle.run_laws.proofs.Complete.{answered}
+use Rattle.run_laws.proofs.Jobs.{second_of}
 
 module _ (law : GeneratedTablesHaveNoFault) (lawful : PathHasCosts) (words : List (List ℕ)) (g : IsGenerated words) where
   -- words that ask for a generated table ask for no other job
@@ -65,7 +66,7 @@ module _ (law : GeneratedTablesHaveNoFault) (lawful : PathHasCosts) (words : Lis
   module _ (source source' : Stream) where
     -- and it has no certificate
     short : (n : ℕ) → ¬ IsHalted words source source' (halts.Refused (refusals.CertTooLong n))
-    short n h = alone h.job h.read.asked (λ job. engine.HasCause job h.bytes (halts.Refused (refusals.CertTooLong n)) → ⊥) (λ s again cause. cause.2.cause) h.cause
+    short n h = alone h.job h.read.asked (λ job. engine.HasCause job h.bytes (halts.Refused (refusals.CertTooLong n)) → ⊥) (λ s again cause. (second_of cause (λ unread. unread.2.cause)).cause) h.cause
 
     pub sample_answered : (out out' err err' : Stream) (outcome : Outcome) → IsRun words source source' out out' err err' outcome → NoneRose source source' out out' err err'
         → IsAnswer words source source' [] outcome × IsNotTooLong outcome

@@ -1,7 +1,7 @@
 -- A job that asks for a rank test is answered; where its bytes have a fault, there is no report and no stop; and what a
 -- printed test says.
 use Rattle.std.specs.Prelude.{◌≡◌, ℕ, List, Some, length, pos, slice_index}
-use Rattle.std.proofs.Common.{arith, refl, sym, subst, ◌∙◌}
+use Rattle.std.proofs.Common.{arith, inl, inr, refl, sym, subst, ◌∙◌}
 use Rattle.rational_laws.specs.Rational.{whole, ◌≤ℚ◌}
 use Rattle.rational_laws.specs.Selections.{AreDistinct}
 use Rattle.frac_core.specs.declared.frac128.Frac128.{Frac128}

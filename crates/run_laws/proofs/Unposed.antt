@@ -1,6 +1,6 @@
 -- Where bytes have a fault, there is no report and no stop of a fit.
 use Rattle.std.specs.Prelude.{◌≡◌, ℕ, Bool, is_some, List, Some}
-use Rattle.std.proofs.Common.{refl, subst}
+use Rattle.std.proofs.Common.{inl, inr, refl, subst}
 use Rattle.loss_model.specs.Problem.{IsWellShaped}
 use Rattle.rq_words.specs.declared.job.FitJob.{FitJob}
 use Rattle.rq_words.specs.declared.job.Job.{Job}
