@@ -42,7 +42,7 @@ use Rattle.run_laws.proofs.Jobs.{IsFitHalt, IsPredictHalt, dependence_lacks, fit
 
 module _ (words : List (List ℕ)) (source source' : Stream) where
   -- the problem of a fit has none, for this halt, or rows no predictions
-  abbrev IsUnfit : Halt → Type 0
+  abbrev pub IsUnfit : Halt → Type 0
   IsUnfit halt = IsFitHalt words source source' halt ⊎ IsPredictHalt words source source' halt
 
   module _ (first : FitJob) (kind : Bool) (asked : AskFit words first kind) where
