@@ -42,15 +42,19 @@ fn tell_arith(told: &mut Told, arith: &Arith) {
     }
 }
 
+// The item of a list that has just one.
+fn only<T>(items: &[T]) -> Option<&T> {
+    if items.len() == 1 {
+        items.first()
+    } else {
+        None
+    }
+}
+
 // The arithmetic of a formula with just one term of just one variable.
 fn only_arith(formula: &Formula) -> Option<&Arith> {
-    let [term] = formula.terms.as_slice() else {
-        return None;
-    };
-    let [variable] = term.variables.as_slice() else {
-        return None;
-    };
-    variable.arith.as_ref()
+    let term = only(formula.terms.as_slice())?;
+    only(term.variables.as_slice())?.arith.as_ref()
 }
 
 // The entry behind that of the intercept.

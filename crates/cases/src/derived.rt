@@ -1,7 +1,7 @@
 //! What the cases of a file ask of problems that are derived from a problem, of rank intervals and of solves.
 
 use crate::told::Told;
-use crate::{grams, intervals, paths, solves};
+use crate::{grams, paths, problems};
 
 /// What is asked.
 #[derive(Clone, Copy)]
@@ -10,8 +10,7 @@ pub(crate) enum Derived {
     PathSizes,
     Grams,
     Products,
-    Intervals,
-    Solves,
+    Problems,
 }
 
 /// The kind of the cases of a file, by its name without its ending.
@@ -21,8 +20,7 @@ pub(crate) fn derived_of(name: &str) -> Option<Derived> {
         "path_sizes" => Derived::PathSizes,
         "grams" => Derived::Grams,
         "products" => Derived::Products,
-        "intervals" => Derived::Intervals,
-        "solves" | "starts" | "limits" => Derived::Solves,
+        "intervals" | "solves" | "starts" | "limits" => Derived::Problems,
         _ => return None,
     };
     Some(derived)
@@ -35,7 +33,6 @@ pub(crate) fn tell(told: &mut Told, derived: Derived, shared: &str, asked: &str)
         Derived::PathSizes => paths::tell_size(told, asked),
         Derived::Grams => grams::tell(told, shared, asked),
         Derived::Products => grams::tell_product(told, asked),
-        Derived::Intervals => intervals::tell(told, shared, asked),
-        Derived::Solves => solves::tell(told, shared, asked),
+        Derived::Problems => problems::tell(told, shared, asked),
     }
 }

@@ -70,22 +70,28 @@ fn spill_of(text: &str) -> Option<Spill<Frac128>> {
     })
 }
 
+fn prediction_of(text: &str) -> Option<Place> {
+    let rec = text.parse::<u32>().ok()?;
+    Some(Place::Predict { rec })
+}
+
+fn interval_of(text: &str) -> Option<Place> {
+    let (column, tau) = text.split_once(' ')?;
+    let column = column.parse::<u32>().ok()?;
+    let tau = number_of(tau)?;
+    Some(Place::Interval { column, tau })
+}
+
 fn place_of(text: &str) -> Option<Place> {
-    let mut words = text.split(' ');
-    let place = match words.next()? {
-        "process" => Place::Process,
-        "full" => Place::Full,
-        "path" => Place::Path,
-        "predict" => Place::Predict {
-            rec: words.next()?.parse::<u32>().ok()?,
-        },
-        "interval" => Place::Interval {
-            column: words.next()?.parse::<u32>().ok()?,
-            tau: number_of(words.next()?)?,
-        },
-        _ => return None,
-    };
-    Some(place)
+    let (word, rest) = text.split_once(' ').unwrap_or((text, ""));
+    match word {
+        "process" => Some(Place::Process),
+        "full" => Some(Place::Full),
+        "path" => Some(Place::Path),
+        "predict" => prediction_of(rest),
+        "interval" => interval_of(rest),
+        _ => None,
+    }
 }
 
 fn halt_of(alloc: Global, asked: &str) -> Option<Halt> {

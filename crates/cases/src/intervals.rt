@@ -1,19 +1,13 @@
 //! Rank intervals, tests of columns, and what each stops for.
-//!
-//! A problem of 64 bits is asked in both widths, and an interval in 64 bits is told in 128 once more: where the answers are the same, it is
-//! told once; else the others stand behind ` | `. Behind `wide` all is asked in 128 bits alone, and behind `narrow` in 64.
 
 ghost use Rattle.std.specs.Prelude.{◌≡◌, ◌<◌, IfSome, length};
 ghost use Rattle.rank_inversion.specs.GramStops.{IsInverted};
 
-use crate::losses::problem_of;
 use crate::told::Told;
 use crate::trails::{tell_rows, tell_stop, tell_trail, tell_vertex};
 use basis_inverse::{Inverse, start};
 use frac_core::{Exact, Frac64, Frac128, read_number};
-use loss_model::{
-    Beyond, Bound, End, Interval, Problem, Stop, narrow_problem, widen_interval, widen_stop,
-};
+use loss_model::{Beyond, Bound, End, Interval, Problem, Stop, widen_interval, widen_stop};
 use rank_inversion::{
     Asked, GramInverse, RankTest, gram_inverse, interval, interval_by_parts, interval_in_wholes,
     rank_test,
@@ -93,16 +87,22 @@ fn tell_answer<F: Exact>(told: &mut Told, word: &str, answer: &Answer<F>) {
     }
 }
 
+// A quantile and a critical value.
+fn values_of<F: Exact>(tau: &str, crit: &str) -> Option<(F, F)> {
+    let tau = read_number::<F>(tau).ok()?;
+    let crit = read_number::<F>(crit).ok()?;
+    Some((tau, crit))
+}
+
 // A column, a quantile and a critical value, and the limit of pivots.
 fn asked_in<F: Exact>(text: &str) -> Option<(Asked<F>, u32)> {
-    let mut words = text.split(' ');
-    let asked = Asked {
-        column: words.next()?.parse::<u32>().ok()?,
-        tau: read_number::<F>(words.next()?).ok()?,
-        crit: read_number::<F>(words.next()?).ok()?,
-    };
-    let limit = words.next().unwrap_or("0").parse::<u32>().ok()?;
-    Some((asked, limit))
+    let (column, rest) = text.split_once(' ')?;
+    let (tau, rest) = rest.split_once(' ')?;
+    let (crit, limit) = rest.split_once(' ').unwrap_or((rest, "0"));
+    let (tau, crit) = values_of::<F>(tau, crit)?;
+    let column = column.parse::<u32>().ok()?;
+    let limit = limit.parse::<u32>().ok()?;
+    Some((Asked { column, tau, crit }, limit))
 }
 
 // What is answered where its conditions are met: by parts, whose walks go in fractions, in whole numbers alone, or by the first that can.
@@ -136,7 +136,8 @@ fn answer_to<F: Exact>(alloc: Global, problem: &Problem<F>, word: &str, text: &s
     }
 }
 
-fn tell_asked<F: Exact>(told: &mut Told, problem: &Problem<F>, word: &str, text: &str) {
+/// The interval that is asked for, or why there is none.
+pub(crate) fn tell_asked<F: Exact>(told: &mut Told, problem: &Problem<F>, word: &str, text: &str) {
     let answer = answer_to(told.alloc(), problem, word, text);
     tell_answer(told, word, &answer);
     drop(answer);
@@ -150,8 +151,8 @@ fn widened(alloc: Global, answer: &Answer<Frac64>) -> Answer<Frac128> {
     }
 }
 
-// The interval in 64 bits, told in 128.
-fn tell_widened(told: &mut Told, problem: &Problem<Frac64>, text: &str) {
+/// The interval in 64 bits, told in 128.
+pub(crate) fn tell_widened(told: &mut Told, problem: &Problem<Frac64>, text: &str) {
     let answer = answer_to(told.alloc(), problem, "interval", text);
     let wide = widened(told.alloc(), &answer);
     drop(answer);
@@ -184,7 +185,8 @@ fn tell_column<F: Exact>(told: &mut Told, inverse: &Inverse<F>, columns: u32, co
     }
 }
 
-fn tell_gram<F: Exact>(told: &mut Told, problem: &Problem<F>) {
+/// The rows of the start and the inverse of the Gram matrix, row by row.
+pub(crate) fn tell_gram<F: Exact>(told: &mut Told, problem: &Problem<F>) {
     let Some(gram) = gram_of(told.alloc(), problem) else {
         return told.put("no inverse");
     };
@@ -205,7 +207,8 @@ fn test_of<F: Exact>(alloc: Global, problem: &Problem<F>, text: &str) -> Option<
     rank_test(alloc, problem, &gram, asked).ok()
 }
 
-fn tell_test<F: Exact>(told: &mut Told, problem: &Problem<F>, text: &str) {
+/// The factors and the bound of the test of a column.
+pub(crate) fn tell_test<F: Exact>(told: &mut Told, problem: &Problem<F>, text: &str) {
     match test_of(told.alloc(), problem, text) {
         Some(test) => {
             told.put_fractions(test.factors.as_slice());
@@ -216,8 +219,8 @@ fn tell_test<F: Exact>(told: &mut Told, problem: &Problem<F>, text: &str) {
     }
 }
 
-// Whether the greedy start overflows.
-fn tell_begun<F: Exact>(told: &mut Told, problem: &Problem<F>) {
+/// Whether the greedy start overflows.
+pub(crate) fn tell_beginning<F: Exact>(told: &mut Told, problem: &Problem<F>) {
     if !is_shaped(problem) {
         return told.put("no shape");
     }
@@ -228,58 +231,4 @@ fn tell_begun<F: Exact>(told: &mut Told, problem: &Problem<F>) {
         Err(_) => "stopped",
     });
     drop(answer);
-}
-
-// ---- both widths
-
-fn tell_in<F: Exact>(told: &mut Told, problem: &Problem<F>, asked: &str) {
-    let (word, text) = asked.split_once(' ').unwrap_or((asked, ""));
-    match word {
-        "start" => tell_begun(told, problem),
-        "gram" => tell_gram(told, problem),
-        "test" => tell_test(told, problem, text),
-        _ => tell_asked(told, problem, word, text),
-    }
-}
-
-// What is answered in both widths, or in 64 bits alone.
-fn tell_both(told: &mut Told, problem: &Problem<Frac128>, narrow: &Problem<Frac64>, asked: &str) {
-    if let Some(asked) = asked.strip_prefix("narrow ") {
-        return tell_in(told, narrow, asked);
-    }
-    tell_in(told, problem, asked);
-    let mut other = Told::new(told.alloc());
-    tell_in(&mut other, narrow, asked);
-    told.put_other(&other);
-    if let Some(text) = asked.strip_prefix("interval ") {
-        let mut other = Told::new(told.alloc());
-        tell_widened(&mut other, narrow, text);
-        told.put_other(&other);
-    }
-}
-
-fn tell_of(told: &mut Told, problem: &Problem<Frac128>, asked: &str) {
-    if let Some(asked) = asked.strip_prefix("wide ") {
-        return tell_in(told, problem, asked);
-    }
-    if !is_shaped(problem) {
-        return told.put("no shape");
-    }
-    let narrow = narrow_problem(told.alloc(), problem);
-    match &narrow {
-        Ok(Some(narrow)) => tell_both(told, problem, narrow, asked),
-        _ => tell_in(told, problem, asked),
-    }
-    drop(narrow);
-}
-
-/// Tells what is asked of a problem.
-pub(crate) fn tell(told: &mut Told, shared: &str, asked: &str) {
-    match problem_of(told.alloc(), shared) {
-        Some(problem) => {
-            tell_of(told, &problem, asked);
-            drop(problem);
-        }
-        None => told.put("no problem"),
-    }
 }

@@ -33,6 +33,7 @@ mod notation;
 mod numbers;
 mod paths;
 mod predictions;
+mod problems;
 mod projections;
 mod ratios;
 mod readings;

@@ -8,12 +8,20 @@ pub(crate) fn number_of(text: &str) -> Option<Frac128> {
     read_number::<Frac128>(text).ok()
 }
 
+// Adds the number of a word, and says whether it could.
+fn add_number<F: Exact>(values: &mut Vec<F>, word: &str) -> bool {
+    match read_number::<F>(word) {
+        Ok(value) => values.push(value).is_ok(),
+        Err(_) => false,
+    }
+}
+
 /// The numbers of a text in one width, with blanks between.
 pub(crate) fn numbers_in<F: Exact>(alloc: Global, text: &str) -> Option<Vec<F>> {
     let mut values = Vec::new(alloc);
     for word in text.split(' ') {
-        if !word.is_empty() {
-            values.push(read_number::<F>(word).ok()?).ok()?;
+        if !word.is_empty() && !add_number(&mut values, word) {
+            return None;
         }
     }
     Some(values)

@@ -1,16 +1,11 @@
-//! Solves at a quantile, walks over a range of them, and what stands at starts.
-//!
-//! A problem of 64 bits is asked in both widths: where it answers as in 128, it is told once; else its answer stands behind ` | `. Behind
-//! `narrow` all is asked in 64 bits alone.
+//! Solves at a quantile, and walks over a range of them.
 
-use crate::losses::problem_of;
 use crate::numbers::{counts_of, numbers_in};
-use crate::starts::{tell_begun, tell_exchanged, tell_standing, tell_stay};
 use crate::told::Told;
 use crate::trails::{tell_rows, tell_stop, tell_trail, tell_vertex};
 use br_pivot::{Solved, solve_at};
-use frac_core::{Exact, Frac64, Frac128};
-use loss_model::{Problem, Process, Segment, Stop, Trail, narrow_problem};
+use frac_core::Exact;
+use loss_model::{Problem, Process, Segment, Stop, Trail};
 use std::alloc::Global;
 use tau_process::process;
 use test_kit::{has_costs, is_ordered, is_shaped};
@@ -73,23 +68,23 @@ fn tell_solved<F: Exact>(told: &mut Told, word: &str, solved: &Solved<F>) {
     told.put_fractions(solved.basic.as_slice());
 }
 
-fn tell_both_ends<F: Exact>(told: &mut Told, lo: F, hi: F) {
-    told.put_fraction(lo);
-    told.put(" ");
-    told.put_fraction(hi);
+fn tell_behind<F: Exact>(told: &mut Told, mark: &str, value: F) {
+    told.put(mark);
+    told.put_fraction(value);
 }
 
 /// The ends of a segment, its vertex, and the dual values of the basic rows and the loss at both ends.
 pub(crate) fn tell_segment<F: Exact>(told: &mut Told, segment: &Segment<F>) {
-    tell_both_ends(told, segment.lo, segment.hi);
+    tell_behind(told, "", segment.lo);
+    tell_behind(told, " ", segment.hi);
     told.put(" ");
     tell_vertex(told, &segment.vertex);
     told.put(" from ");
     told.put_fractions(segment.basic_lo.as_slice());
     told.put(" to ");
     told.put_fractions(segment.basic_hi.as_slice());
-    told.put(" loss ");
-    tell_both_ends(told, segment.loss_lo, segment.loss_hi);
+    tell_behind(told, " loss ", segment.loss_lo);
+    tell_behind(told, " ", segment.loss_hi);
 }
 
 // How it is reached, and its segments; or how many pivots it took.
@@ -173,7 +168,13 @@ fn tell_each<F: Exact>(
     }
 }
 
-fn tell_limited<F: Exact>(told: &mut Told, problem: &Problem<F>, word: &str, rest: &str) {
+/// What is answered at a quantile, or over two, under each limit.
+pub(crate) fn tell_limited<F: Exact>(
+    told: &mut Told,
+    problem: &Problem<F>,
+    word: &str,
+    rest: &str,
+) {
     let (quantiles, limits) = rest.split_once(" limit ").unwrap_or((rest, ""));
     let quantiles = numbers_in::<F>(told.alloc(), quantiles);
     let limits = counts_of(told.alloc(), limits);
@@ -182,53 +183,5 @@ fn tell_limited<F: Exact>(told: &mut Told, problem: &Problem<F>, word: &str, res
             tell_each(told, problem, word, quantiles.as_slice(), limits.as_slice());
         }
         _ => told.put("no number"),
-    }
-}
-
-fn tell_in<F: Exact>(told: &mut Told, problem: &Problem<F>, asked: &str) {
-    let (word, rest) = asked.split_once(' ').unwrap_or((asked, ""));
-    match word {
-        "start" => tell_begun(told, problem),
-        "exchange" => tell_exchanged(told, problem, rest),
-        "standing" => tell_standing(told, problem),
-        _ => tell_limited(told, problem, word, rest),
-    }
-}
-
-// ---- both widths
-
-fn tell_both(told: &mut Told, problem: &Problem<Frac128>, narrow: &Problem<Frac64>, asked: &str) {
-    if let Some(asked) = asked.strip_prefix("narrow ") {
-        return tell_in(told, narrow, asked);
-    }
-    tell_in(told, problem, asked);
-    let mut other = Told::new(told.alloc());
-    tell_in(&mut other, narrow, asked);
-    told.put_other(&other);
-}
-
-fn tell_of(told: &mut Told, problem: &Problem<Frac128>, asked: &str) {
-    if let Some(ends) = asked.strip_prefix("stay ") {
-        return tell_stay(told, problem, ends);
-    }
-    if !is_shaped(problem) {
-        return told.put("no shape");
-    }
-    let narrow = narrow_problem(told.alloc(), problem);
-    match &narrow {
-        Ok(Some(narrow)) => tell_both(told, problem, narrow, asked),
-        _ => tell_in(told, problem, asked),
-    }
-    drop(narrow);
-}
-
-/// Tells what is asked of a problem.
-pub(crate) fn tell(told: &mut Told, shared: &str, asked: &str) {
-    match problem_of(told.alloc(), shared) {
-        Some(problem) => {
-            tell_of(told, &problem, asked);
-            drop(problem);
-        }
-        None => told.put("no problem"),
     }
 }

@@ -11,14 +11,18 @@ pub(crate) fn tell_rows(told: &mut Told, rows: &[u32]) {
     }
 }
 
-// The rows of a start, where a position without one has `-`.
+// The row at a position, or `-` where there is none.
+fn tell_place(told: &mut Told, row: Option<u32>) {
+    match row {
+        Some(row) => told.put_named(" ", row),
+        None => told.put(" -"),
+    }
+}
+
 fn tell_start(told: &mut Told, rows: &[Option<u32>]) {
     told.put("start");
     for row in rows {
-        match row {
-            Some(row) => told.put_named(" ", *row),
-            None => told.put(" -"),
-        }
+        tell_place(told, *row);
     }
 }
 

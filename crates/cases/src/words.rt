@@ -111,19 +111,31 @@ fn tell_answer(told: &mut Told, words: &[String]) {
     drop(answer);
 }
 
-fn add_words(alloc: Global, words: &mut Vec<String>, text: &str) -> Option<()> {
-    for word in text.split('|').skip(1) {
-        words.push(text_of(alloc, word)?).ok()?;
+// Adds a word as it is written, and says whether it could.
+fn add_word(alloc: Global, words: &mut Vec<String>, word: &str) -> bool {
+    match text_of(alloc, word) {
+        Some(word) => words.push(word).is_ok(),
+        None => false,
     }
-    Some(())
+}
+
+fn add_words(alloc: Global, words: &mut Vec<String>, text: &str) -> bool {
+    for word in text.split('|').skip(1) {
+        if !add_word(alloc, words, word) {
+            return false;
+        }
+    }
+    true
 }
 
 // The words that a case shares, and its own.
 fn words_of(alloc: Global, shared: &str, asked: &str) -> Option<Vec<String>> {
     let mut words = Vec::new(alloc);
-    add_words(alloc, &mut words, shared)?;
-    add_words(alloc, &mut words, asked)?;
-    Some(words)
+    if add_words(alloc, &mut words, shared) && add_words(alloc, &mut words, asked) {
+        Some(words)
+    } else {
+        None
+    }
 }
 
 /// What the words ask for, or their fault.
