@@ -1,6 +1,5 @@
 -- A crossing as it is computed at a basis, and what the first one of all is.
-use Rattle.std.specs.Prelude.{◌≡◌, ◌≢◌, ◌↔◌, IsTrue, ℕ, ◌<◌, Bool, true, false, List, [], ◌∷◌, length, slice_get, slice_index, get_or, Option, Some, None, pos}
-use Rattle.std.specs.Ordering.{is_lt, is_gt}
+use Rattle.std.specs.Prelude.{◌≡◌, ◌≢◌, ℕ, ◌<◌, List, [], ◌∷◌, length, slice_get, slice_index, get_or, Option, Some, None, pos}
 use Rattle.std.specs.Option.{option_map_or}
 use Rattle.std.proofs.Common.{arith, refl, sym, ap, ap₂, subst, ◌∙◌, inl, inr}
 use Rattle.std.proofs.lemmas.Option.{slice_get_read}
@@ -8,9 +7,6 @@ use Rattle.rational_laws.specs.Fraction.{Fraction, rational}
 use Rattle.rational_laws.specs.Solver.{number, negated, ◌⊟◌, v0}
 use Rattle.rational_laws.specs.Rational.{ℚ, ◌-ℚ◌, ◌*ℚ◌, neg_ℚ, inverse, whole, ◌≤ℚ◌}
 use Rattle.rational_laws.proofs.RationalLaws.{ring_ℚ, ≤ℚ_refl}
-use Rattle.rational_laws.specs.Order.{cmp_ℚ}
-use Rattle.rational_laws.proofs.OrderLaws.{by_cmp, le_from_not}
-use Rattle.rational_laws.proofs.Signs.{not_below}
 use Rattle.loss_model.specs.declared.problem.Row.{Row}
 use Rattle.loss_model.specs.declared.problem.Problem.{Problem}
 use Rattle.loss_model.specs.declared.spill.Spill.{Spill}
@@ -34,33 +30,13 @@ use Rattle.walk_model.proofs.Crossings.{quotient_is, rise_is}
 use Rattle.walk_model.proofs.Lines.{le_by}
 use Rattle.walk_model.proofs.Slopes.{crossing}
 use Rattle.fraction_tableau.specs.declared.crossings.Affine.{Affine}
-use Rattle.fraction_tableau.specs.declared.crossings.Breakpoint.{Breakpoint}
-use Rattle.fraction_tableau.specs.Crossings.{Gains, gain_on, IsMeeting, passes_at, IsFirst, IsFirstOf}
-use Rattle.fraction_tableau.proofs.Lists.{value_read}
-use Rattle.fraction_tableau.proofs.Soonest.{IsCrossingTowards}
+use Rattle.tableau_model.specs.declared.breakpoint.Breakpoint.{Breakpoint}
+use Rattle.fraction_tableau.specs.Meetings.{Gains, gain_on, IsMeeting}
+use Rattle.tableau_model.specs.Crossings.{passes_at, IsFirst, IsFirstOf}
+use Rattle.tableau_model.proofs.Lists.{value_read}
+use Rattle.tableau_model.proofs.Soonest.{IsCrossingTowards}
 
 -- ---- signs of a gain
-
-pub above_test : (x y : ℚ) → IsTrue (is_gt (cmp_ℚ x y)) ↔ (y <ℚ x)
-above_test x y =
-    by_cmp x y (λ o. IsTrue (is_gt o) ↔ (y <ℚ x))
-    (λ h. (λ e. absurd (cc e), λ k. absurd (k (le_from_not x y h))))
-    (λ h. (λ e. absurd (cc e), λ k. absurd (k (subst (λ z. x ≤ℚ z) h (≤ℚ_refl x)))))
-    (λ h. (λ e. h, λ k. refl))
-
-pub below_test : (x y : ℚ) → IsTrue (is_lt (cmp_ℚ x y)) ↔ (x <ℚ y)
-below_test x y =
-    by_cmp x y (λ o. IsTrue (is_lt o) ↔ (x <ℚ y))
-    (λ h. (λ e. h, λ k. refl))
-    (λ h. (λ e. absurd (cc e), λ k. absurd (k (subst (λ z. z ≤ℚ x) h (≤ℚ_refl x)))))
-    (λ h. (λ e. absurd (cc e), λ k. absurd (k (le_from_not y x h))))
-
--- the same of a test that was made
-pub not_below_by : (x y : ℚ) (b : Bool) → b ≡ is_lt (cmp_ℚ x y) → b ≡ false → y ≤ℚ x
-not_below_by x y b e h = not_below x y (sym e ∙ h)
-
-pub is_below_by : (x y : ℚ) (b : Bool) → b ≡ is_lt (cmp_ℚ x y) → b ≡ true → x <ℚ y
-is_below_by x y b e h = (below_test x y).0 (sym e ∙ h)
 
 -- what gains is not 0
 pub gains_some : (d : Direction) (g : ℚ) → Gains d g → g ≢ whole (pos 0)

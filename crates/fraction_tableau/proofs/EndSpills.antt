@@ -20,7 +20,7 @@ use Rattle.basic_solution.specs.Solutions.{IsSolution}
 use Rattle.walk_model.specs.WalkSpills.{IsSegmentEnd, IsEndSpill, of_dual, IsStaySpill, of_basis, of_lo, of_hi}
 use Rattle.tableau_model.specs.Places.{Place, at_of, sample_of, IsPlace}
 use Rattle.fraction_tableau.specs.Next.{IsDualFault}
-use Rattle.fraction_tableau.proofs.Lists.{value_read}
+use Rattle.tableau_model.proofs.Lists.{value_read}
 
 -- the coefficients are those of the basis beyond the columns too, where all are 0
 module _ {F : Type 0} (value : F → Fraction) (h : Place F) (sol : BasicSolution F) (is_place : IsPlace value h) (is : IsSolution value (sample_of value h) (at_of h) h.inverse sol) where

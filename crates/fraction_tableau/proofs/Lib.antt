@@ -1,9 +1,6 @@
 pub mod Inverses
 pub mod Places
 pub mod Refusals
-pub mod Lists
-pub mod AscendingRows
-pub mod Vertices
 pub mod HeapLaws
 pub mod Items
 pub mod SlopeLaws
@@ -11,7 +8,6 @@ pub mod Moving
 pub mod Ties
 pub mod Passed
 pub mod NextSteps
-pub mod Soonest
 pub mod Crossed
 pub mod LeastItem
 pub mod Stepping

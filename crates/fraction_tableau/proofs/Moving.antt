@@ -7,7 +7,7 @@ use Rattle.std.proofs.lemmas.List.{length_push}
 use Rattle.std.proofs.lemmas.Option.{slice_get_past, slice_get_read}
 use borrow.Author.Tests.{eqb-true, eqb-false}
 use Rattle.rational_laws.specs.Fraction.{Fraction, rational}
-use Rattle.rational_laws.specs.Rational.{ℚ, ◌*ℚ◌, inverse, whole}
+use Rattle.rational_laws.specs.Rational.{◌*ℚ◌, inverse, whole}
 use Rattle.rational_laws.proofs.Lists.{pushed_last}
 use Rattle.frac_core.specs.Overflow.{Overflows}
 use Rattle.frac_core.specs.declared.exact.OpKind.TheVariants.{Div}
@@ -15,7 +15,6 @@ use Rattle.loss_model.specs.declared.spill.Quantity.TheVariants.{PerturbedRatio}
 use Rattle.loss_model.specs.declared.spill.Spill.{Spill}
 use Rattle.loss_model.specs.declared.vertex.Side.{Side}
 use Rattle.loss_model.specs.declared.vertex.Side.TheVariants.{Basic}
-use Rattle.loss_model.specs.Sample.{Sample}
 use Rattle.loss_model.specs.Problem.{value_at}
 use Rattle.loss_model.specs.Quantities.{IsShortOf}
 use Rattle.loss_model.specs.declared.spill.Short.{Short}
@@ -24,26 +23,21 @@ use Rattle.basis_model.specs.Perturbed.{turned, perturbed_side}
 use Rattle.basis_model.proofs.Ratios.{abs_nonzero}
 use Rattle.basis_model.specs.Basis.{coord, outside_row, side_at}
 use Rattle.loss_model.specs.Sides.{side_in}
-use Rattle.pivot_model.specs.declared.direction.Direction.{Direction}
-use Rattle.pivot_model.specs.declared.direction.Direction.TheVariants.{Upward, Downward}
-use Rattle.pivot_model.specs.Steps.{is_towards, change, moves}
+use Rattle.pivot_model.specs.Steps.{is_towards, moves}
 use Rattle.pivot_model.specs.Spills.{of_basis, of_ratio, of_tie, of_search}
 use Rattle.pivot_model.proofs.Passing.{mover_some, mover_outside}
 use Rattle.pivot_model.proofs.Sides.{side_outside}
 use Rattle.fraction_tableau.specs.declared.line.Line.{Line}
 use Rattle.fraction_tableau.specs.declared.line.Mover.{Mover}
-use Rattle.fraction_tableau.specs.Lines.{model, at_of, inverse_of, IsLine, IsOrderSpill, IsLineSpill, at_coordinates, at_ratio, at_tie, IsMover, AreMovers, AreMoversBelow, row_at, is_moving, side_is, coord_is, turned_by}
+use Rattle.fraction_tableau.specs.Lines.{model, at_of, inverse_of, IsLine, IsOrderSpill, IsLineSpill, at_coordinates, at_ratio, at_tie, IsMover, AreMovers, AreMoversBelow, row_at, is_moving, side_is, coord_is}
+use Rattle.tableau_model.specs.Turns.{turned_by}
 use Rattle.fraction_tableau.specs.Descents.{IsDescent, IsDescentSpill}
-use Rattle.fraction_tableau.proofs.Lists.{get_front}
+use Rattle.tableau_model.proofs.Lists.{get_front}
 use Rattle.fraction_tableau.proofs.Items.{row_read}
 use Rattle.fraction_tableau.proofs.Refusals.{short_weaker}
 
 no : true ≡ false → ⊥
 no h = cc
-
-pub change_turned : (d : Direction) (p : Sample) (at : ℕ → ℕ) (a : ℕ → ℕ → ℚ) (j i : ℕ) → change p at a j d i ≡ turned_by d (coord p a i j)
-change_turned Upward p at a j i = refl
-change_turned Downward p at a j i = refl
 
 module _ {F : Type 0} (value : F → Fraction) (l : Line F) where
   -- whether a row moves, by its side and its coordinate

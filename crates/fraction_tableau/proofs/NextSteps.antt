@@ -26,7 +26,7 @@ use Rattle.fraction_tableau.specs.Kept.{IsKept}
 use Rattle.fraction_tableau.specs.Lines.{model, at_of, inverse_of, IsLine, HasSides, HasCoordinates}
 use Rattle.fraction_tableau.specs.Descents.{IsDescentSpill, Enters, first_slope}
 use Rattle.fraction_tableau.specs.Next.{IsDualFault}
-use Rattle.fraction_tableau.specs.Standing.{AreDuals, Stands}
+use Rattle.tableau_model.specs.Standing.{AreDuals, Stands}
 use Rattle.fraction_tableau.proofs.Refusals.{short_weaker}
 
 -- with the dual values at theta, the basic solution is what stands at the basis

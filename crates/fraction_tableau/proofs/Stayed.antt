@@ -11,12 +11,12 @@ use Rattle.pivot_model.specs.Results.{IsVertexAt, AreBasicDuals}
 use Rattle.tableau_model.specs.Places.{Place, at_of, sample_of, IsPlace}
 use Rattle.tableau_model.specs.WalkAnswers.{IsSegmentHere}
 use Rattle.fraction_tableau.specs.declared.ends.EndValues.{EndValues}
-use Rattle.fraction_tableau.specs.declared.standing.Standing.{Standing}
+use Rattle.tableau_model.specs.declared.answer.Standing.{Standing}
 use Rattle.fraction_tableau.specs.Ends.{IsEnded}
-use Rattle.fraction_tableau.specs.Standing.{Stands}
+use Rattle.tableau_model.specs.Standing.{Stands}
 use Rattle.fraction_tableau.proofs.EndSpills.{coefficients_are}
 use Rattle.fraction_tableau.proofs.NextSteps.{standing_by}
-use Rattle.fraction_tableau.proofs.Vertices.{is_vertex, basic_duals}
+use Rattle.tableau_model.proofs.Vertices.{is_vertex, basic_duals}
 
 module _ {F : Type 0} (value : F → Fraction) (h : Place F) (sol : BasicSolution F) (is_place : IsPlace value h) (is : IsSolution value (sample_of value h) (at_of h) h.inverse sol)
     (sorted : List ℕ) (increasing : IsStrictlyIncreasing sorted) (size : length sorted ≡ length h.rows) (same : (i : ℕ) → Contains sorted i ↔ Contains h.rows i) where

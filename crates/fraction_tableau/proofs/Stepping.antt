@@ -1,45 +1,33 @@
 -- The walking step that is left at a basis.
-use Rattle.std.specs.Prelude.{◌≡◌, ℕ, ◌<◌, true, Option, Some, None, pos}
+use Rattle.std.specs.Prelude.{ℕ, ◌<◌, Option, Some, None}
 use Rattle.std.proofs.Common.{sym, subst, inl, inr}
 use Rattle.rational_laws.specs.Fraction.{Fraction, rational}
-use Rattle.rational_laws.specs.Rational.{ℚ, whole, ◌≤ℚ◌}
+use Rattle.rational_laws.specs.Rational.{ℚ, ◌≤ℚ◌}
 use Rattle.rational_laws.proofs.RationalLaws.{≤ℚ_trans}
 use Rattle.loss_model.specs.declared.process.Exchange.{Exchange}
 use Rattle.loss_model.specs.declared.spill.Spill.{Spill}
 use Rattle.loss_model.specs.Sample.{Sample}
 use Rattle.loss_model.specs.Spill.{AtSome}
-use Rattle.basis_model.specs.Basis.{IsBasis}
 use Rattle.pivot_model.specs.declared.direction.Direction.{Direction}
-use Rattle.pivot_model.specs.Duals.{◌<ℚ◌, HasCosts}
-use Rattle.pivot_model.specs.Steps.{moves}
+use Rattle.pivot_model.specs.Duals.{◌<ℚ◌}
 use Rattle.walk_model.specs.Families.{over_quantiles, IsOptimalIn}
 use Rattle.walk_model.specs.Walks.{Crosses, IsNextBreak, IsWalkingStep}
 use Rattle.walk_model.specs.WalkTrails.{is_below}
 use Rattle.walk_model.specs.SlopeLaws.{crossing_of}
 use Rattle.walk_model.specs.WalkSpills.{IsCrossingSpill, IsStaySpill, of_basis, of_crossing, of_pivot, of_ratio, of_tie}
-use Rattle.walk_model.proofs.Movers.{some_row}
-use Rattle.walk_model.proofs.Slopes.{slope_is}
 use Rattle.walk_model.proofs.Trails.{below_from}
 use Rattle.tableau_model.specs.WalkAnswers.{IsWalkingAnswer}
 use Rattle.fraction_tableau.specs.Kept.{place}
-use Rattle.fraction_tableau.specs.declared.crossings.Breakpoint.{Breakpoint}
+use Rattle.tableau_model.specs.declared.breakpoint.Breakpoint.{Breakpoint}
 use Rattle.fraction_tableau.specs.declared.view.BasisView.{BasisView}
-use Rattle.fraction_tableau.specs.Crossings.{passes_at, IsFirst, IsFirstOf}
+use Rattle.tableau_model.specs.Crossings.{passes_at, IsFirst, IsFirstOf}
 use Rattle.fraction_tableau.specs.Lines.{at_coordinates, at_ratio, at_tie}
 use Rattle.fraction_tableau.specs.Views.{sample_at, rows_at, entries_at}
 use Rattle.fraction_tableau.specs.WalkingSteps.{IsStepAt, IsStepSpillAt}
-use Rattle.fraction_tableau.proofs.Crossed.{below_test, none_crosses, first_is_next}
-
--- where a dual value has passed beyond its bound at hi, some row moves
-pub some_moves : (p : Sample) (at : ℕ → ℕ) (a : ℕ → ℕ → ℚ) (t hi : ℚ) (j : ℕ) (d : Direction) → IsBasis p at a → HasCosts p hi → j < p.columns → Crosses (over_quantiles p) at a t j d → t <ℚ hi
-    → (i : ℕ) × (i < p.rows) × (moves p at a j d i ≡ true)
-some_moves p at a t hi j d basis costs lj cross below =
-    some_row p at a basis j d hi costs lj (λ up. cross.beyond hi below (subst (λ z. whole (pos 0) ≤ℚ z) (sym (slope_is p at a hi j d)) up))
+use Rattle.tableau_model.proofs.Tests.{below_test}
+use Rattle.fraction_tableau.proofs.Crossed.{none_crosses, first_is_next}
 
 module _ {F : Type 0} (value : F → Fraction) (p : Sample) (at : ℕ → ℕ) (a : ℕ → ℕ → ℚ) (from hi : ℚ) where
-  pub none_behind : hi ≤ℚ from → (t : ℚ) (j r : ℕ) → ¬ IsWalkingStep (over_quantiles p) at a (is_below hi) from t j r
-  none_behind behind t j r h = below_from t hi h.within (≤ℚ_trans hi from t behind h.break.after)
-
   pub none_left : IsFirstOf value (passes_at p at a) (crossing_of p at a) p.columns None → (t : ℚ) (j r : ℕ) → ¬ IsWalkingStep (over_quantiles p) at a (is_below hi) from t j r
   none_left none t j r h = none_crosses value p at a none t j h.direction h.break.position h.break.crosses
 

@@ -12,8 +12,8 @@ use Rattle.fraction_tableau.specs.declared.view.BasisView.{BasisView}
 use Rattle.fraction_tableau.specs.declared.ends.End.{End}
 use Rattle.fraction_tableau.specs.declared.ends.End.TheVariants.{Low, High}
 use Rattle.fraction_tableau.specs.declared.ends.EndValues.{EndValues}
-use Rattle.fraction_tableau.specs.Inverses.{HasValueAt}
-use Rattle.fraction_tableau.specs.Standing.{AreDuals}
+use Rattle.tableau_model.specs.Rows.{HasValueAt}
+use Rattle.tableau_model.specs.Standing.{AreDuals}
 use Rattle.fraction_tableau.specs.Views.{sample_at, rows_at, entries_at}
 
 -- the number of an end in the site of its loss

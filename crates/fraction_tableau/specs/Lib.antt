@@ -5,10 +5,9 @@ pub mod Heaps
 pub mod Lines
 pub mod Descents
 pub mod Slopes
-pub mod Standing
 pub mod Next
 pub mod Views
-pub mod Crossings
+pub mod Meetings
 pub mod LeastRatio
 pub mod Ends
 pub mod WalkingSteps

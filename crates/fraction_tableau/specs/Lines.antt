@@ -2,7 +2,7 @@
 use Rattle.std.specs.Prelude.{◌≡◌, ◌≢◌, ℕ, ◌<◌, Bool, true, List, length, slice_get, slice_index, Some}
 use Rattle.std.specs.Option.{option_map_or}
 use Rattle.rational_laws.specs.Fraction.{Fraction, rational}
-use Rattle.rational_laws.specs.Rational.{ℚ, neg_ℚ}
+use Rattle.rational_laws.specs.Rational.{ℚ}
 use Rattle.loss_model.specs.declared.spill.Spill.{Spill}
 use Rattle.loss_model.specs.Sample.{Sample, residual}
 use Rattle.loss_model.specs.Problem.{value_at, sample}
@@ -15,18 +15,12 @@ use Rattle.lex_rule.specs.Compared.{of_ratio, IsRatioAt}
 use Rattle.loss_model.specs.Sides.{side_in}
 use Rattle.loss_model.specs.declared.vertex.Side.{Side}
 use Rattle.pivot_model.specs.declared.direction.Direction.{Direction}
-use Rattle.pivot_model.specs.declared.direction.Direction.TheVariants.{Upward, Downward}
 use Rattle.pivot_model.specs.Steps.{moves, is_before}
 use Rattle.loss_model.specs.Quantities.{IsCoordinatesSpill}
 use Rattle.basis_model.specs.RatioSpill.{IsRatioEntrySpill, IsRatioSpill}
 use Rattle.fraction_tableau.specs.declared.line.Line.{Line}
 use Rattle.fraction_tableau.specs.declared.line.Mover.{Mover}
 use Rattle.fraction_tableau.specs.Kept.{IsKept}
-
--- a change in a direction
-abbrev pub turned_by : Direction → ℚ → ℚ
-turned_by Upward x = x
-turned_by Downward x = neg_ℚ x
 
 -- the row of item k of a list
 abbrev pub row_at : {F : Type 0} → List (Mover F) → ℕ → ℕ

@@ -10,7 +10,7 @@ use Rattle.tableau_model.specs.Places.{Place, at_of, sample_of}
 use Rattle.tableau_model.specs.Answers.{IsOptimalAt}
 use Rattle.fraction_tableau.specs.declared.standing.Next.{Next}
 use Rattle.fraction_tableau.specs.declared.standing.Next.TheVariants.{Optimal, Pivot}
-use Rattle.fraction_tableau.specs.Standing.{Stands}
+use Rattle.tableau_model.specs.Standing.{Stands}
 
 -- no slope is negative, or the solving step
 abbrev pub IsNext : {F : Type 0} → (F → Fraction) → Place F → ℚ → Next F → Type 0

@@ -6,7 +6,7 @@ use Rattle.loss_model.specs.declared.process.Exchange.{Exchange}
 use Rattle.loss_model.specs.declared.spill.Spill.{Spill}
 use Rattle.pivot_model.specs.Duals.{◌<ℚ◌}
 use Rattle.walk_model.specs.Walks.{IsFirstMover}
-use Rattle.fraction_tableau.specs.declared.crossings.Breakpoint.{Breakpoint}
+use Rattle.tableau_model.specs.declared.breakpoint.Breakpoint.{Breakpoint}
 use Rattle.fraction_tableau.specs.declared.view.BasisView.{BasisView}
 use Rattle.fraction_tableau.specs.Lines.{IsOrderSpill}
 use Rattle.fraction_tableau.specs.Views.{sample_at, rows_at, entries_at}

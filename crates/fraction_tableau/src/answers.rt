@@ -7,14 +7,13 @@ ghost use Rattle.tableau_model.specs.Questions.{solving};
 ghost use Rattle.tableau_model.specs.Refusals.{IsRefusalAt, IsRefusedOf};
 ghost use Rattle.tableau_model.specs.Answers.{IsOptimalAt, IsSolvingAnswer, IsFitted};
 ghost use Rattle.fraction_tableau.specs.Kept.{place};
-ghost use Rattle.fraction_tableau.specs.Standing.{Stands};
+ghost use Rattle.tableau_model.specs.Standing.{Stands};
 
 use crate::fractions::{FractionTableau, failure};
-use crate::standing::{Next, Standing};
-use crate::vertex::{ascending, by_row};
+use crate::standing::Next;
 use frac_core::{Exact, OutOfMemory};
 use loss_model::{Basis, Vertex};
-use tableau_model::{Failure, Fitted, Step};
+use tableau_model::{Failure, Fitted, Standing, Step, ascending, by_row};
 
 impl<'a, F: Exact> FractionTableau<'a, F> {
     /// The solving step at theta that is left, or none where no slope is negative.

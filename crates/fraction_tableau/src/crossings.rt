@@ -11,26 +11,20 @@ ghost use Rattle.walk_model.specs.Walks.{side_towards};
 ghost use Rattle.walk_model.specs.SlopeLaws.{crossing_of};
 ghost use Rattle.walk_model.specs.WalkSpills.{IsMeetingSpill, IsCrossingSpill};
 ghost use Rattle.fraction_tableau.specs.Views.{IsView, sample_at, rows_at, entries_at};
-ghost use Rattle.fraction_tableau.specs.Crossings.{Gains, gain_on, IsMeeting, IsSooner, passes_at, IsCrossingAt, IsFirstOf};
+ghost use Rattle.tableau_model.specs.Crossings.{passes_at, IsCrossingAt, IsFirstOf};
+ghost use Rattle.fraction_tableau.specs.Meetings.{Gains, gain_on, IsMeeting};
 
 use crate::view::BasisView;
 use frac_core::Exact;
 use loss_model::{Quantity, Row, Site, Spill, minus_at, over_at};
 use pivot_model::Direction;
+use tableau_model::{Breakpoint, sooner};
 
 /// A number that is affine in the quantile: `constant + linear * theta`.
 #[derive(Clone, Copy)]
 pub struct Affine<F> {
     pub constant: F,
     pub linear: F,
-}
-
-/// The value of a walk's parameter at which a position leaves, and the direction.
-#[derive(Clone, Copy)]
-pub struct Breakpoint<F> {
-    pub theta: F,
-    pub position: u32,
-    pub direction: Direction,
 }
 
 /// The bound of the dual value of a row in a direction: its up cost, or its negated down cost.
@@ -94,26 +88,6 @@ fn meeting<F: Exact>(
         position,
         direction,
     }))
-}
-
-/// The breakpoint of the two that comes first, and the first of equal ones.
-pub fn sooner<F: Exact>(
-    first: Option<Breakpoint<F>>,
-    second: Option<Breakpoint<F>>,
-) -> Option<Breakpoint<F>>
-    ensures { IsSooner F.value first second result }
-{
-    match (first, second) {
-        (Some(one), Some(two)) => {
-            if two.theta.compare(one.theta).is_lt() {
-                Some(two)
-            } else {
-                Some(one)
-            }
-        }
-        (None, two) => two,
-        (one, None) => one,
-    }
 }
 
 impl<'a, F: Exact> BasisView<'a, F> {

@@ -12,10 +12,10 @@ ghost use Rattle.fraction_tableau.specs.Views.{IsView, sample_at, rows_at, entri
 ghost use Rattle.fraction_tableau.specs.Ends.{end_number, IsEnded, IsEndedSpill};
 
 use crate::standing::duals_at;
-use crate::vertex::by_row;
 use crate::view::BasisView;
 use frac_core::{Exact, List};
 use loss_model::{Quantity, Short, Site, Spill, plus_product};
+use tableau_model::by_row;
 
 /// Which end of a segment.
 #[derive(Clone, Copy)]

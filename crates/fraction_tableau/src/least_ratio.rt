@@ -12,7 +12,6 @@ ghost use Rattle.fraction_tableau.specs.Views.{IsView, sample_at, rows_at, entri
 ghost use Rattle.fraction_tableau.specs.Lines.{IsLine, IsOrderSpill, IsLineSpill, AreMovers, row_at, comes_before};
 ghost use Rattle.fraction_tableau.specs.LeastRatio.{IsEarlier, IsFirstOn, IsFirstMoverOrNone};
 
-use crate::crossings::Breakpoint;
 use crate::fractions::FractionTableau;
 use crate::line::{Line, Mover};
 use crate::movers::movers;
@@ -22,6 +21,7 @@ use basic_solution::BasicSolution;
 use frac_core::Exact;
 use loss_model::Short;
 use pivot_model::Direction;
+use tableau_model::Breakpoint;
 
 /// The one of two movers that comes first.
 fn earlier<F: Exact>(

@@ -27,11 +27,8 @@ mod order;
 mod search;
 mod slopes;
 mod standing;
-mod vertex;
 mod view;
 mod walking;
 
-pub use crossings::{Breakpoint, sooner};
 pub use fractions::FractionTableau;
 pub use standing::duals_at;
-pub use vertex::{ascending, by_row, position_of};

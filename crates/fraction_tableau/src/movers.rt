@@ -5,7 +5,8 @@ ghost use Rattle.loss_model.specs.Quantities.{IsShortOf};
 ghost use Rattle.loss_model.specs.Spill.{abs_ℚ};
 ghost use Rattle.basis_model.specs.Perturbed.{turned as turned_on};
 ghost use Rattle.pivot_model.specs.Steps.{is_towards};
-ghost use Rattle.fraction_tableau.specs.Lines.{IsLine, IsLineSpill, IsMover, AreMovers, AreMoversBelow, HasSides, HasCoordinates, is_moving, side_is, coord_is, turned_by};
+ghost use Rattle.fraction_tableau.specs.Lines.{IsLine, IsLineSpill, IsMover, AreMovers, AreMoversBelow, HasSides, HasCoordinates, is_moving, side_is, coord_is};
+ghost use Rattle.tableau_model.specs.Turns.{turned_by};
 
 use crate::line::{Line, Mover};
 use frac_core::Exact;

@@ -1,21 +1,15 @@
 //! The position that leaves a basis.
 ghost use Rattle.std.specs.Prelude.{◌≡◌, ◌<◌, IfOk, IfErr};
 ghost use Rattle.rational_laws.specs.Fraction.{rational};
-ghost use Rattle.fraction_tableau.specs.Slopes.{HasDuals, slope_of, IsLesserOf, IsSteeper, IsLeavingOf, IsSlopesSpill};
+ghost use Rattle.tableau_model.specs.Slopes.{IsSteeper};
+ghost use Rattle.fraction_tableau.specs.Slopes.{HasDuals, slope_of, IsLesserOf, IsLeavingOf, IsSlopesSpill};
 
 use crate::fractions::FractionTableau;
 use basic_solution::{slope_down, slope_up};
 use frac_core::Exact;
 use loss_model::Spill;
 use pivot_model::Direction;
-
-/// A slope of the loss: that of a position in a direction.
-#[derive(Clone, Copy)]
-pub struct Leaving<F> {
-    pub position: u32,
-    pub direction: Direction,
-    pub slope: F,
-}
+use tableau_model::Leaving;
 
 /// The slopes of the loss at a basis at a quantile, by the dual values of its rows there.
 #[derive(Drop)]

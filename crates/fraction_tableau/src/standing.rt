@@ -13,27 +13,18 @@ ghost use Rattle.pivot_model.specs.Spills.{IsStepSpill};
 ghost use Rattle.fraction_tableau.specs.Kept.{IsKept, place};
 ghost use Rattle.fraction_tableau.specs.Next.{IsNext, IsDualFault};
 ghost use Rattle.fraction_tableau.specs.Slopes.{IsLeavingAt};
-ghost use Rattle.fraction_tableau.specs.Standing.{AreDuals};
+ghost use Rattle.tableau_model.specs.Standing.{AreDuals};
 
 use crate::fractions::FractionTableau;
 use crate::line::Line;
 use crate::movers::movers;
 use crate::search::entering;
-use crate::slopes::{Leaving, Slopes};
+use crate::slopes::Slopes;
 use basic_solution::{BasicSolution, dual_value};
 use frac_core::{Exact, List};
-use loss_model::{Short, Side, Spill};
+use loss_model::{Short, Spill};
 use std::alloc::Global;
-use tableau_model::Step;
-
-/// What a vertex is made of: the coefficients, the sides by row, and the dual values of the basis by
-/// position.
-#[derive(Drop)]
-pub struct Standing<F> {
-    pub coef: List<F>,
-    pub sides: List<Side>,
-    pub duals: List<F>,
-}
+use tableau_model::{Leaving, Standing, Step};
 
 /// What is left to do at a basis: nothing, or the solving step.
 #[derive(Drop)]

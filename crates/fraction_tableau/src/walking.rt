@@ -16,14 +16,12 @@ ghost use Rattle.fraction_tableau.specs.Kept.{place};
 ghost use Rattle.fraction_tableau.specs.Views.{IsView, sample_at, rows_at, entries_at};
 ghost use Rattle.fraction_tableau.specs.WalkingSteps.{IsStepAt, IsStepSpillAt};
 
-use crate::crossings::Breakpoint;
 use crate::ends::Ends;
 use crate::fractions::{FractionTableau, failure};
-use crate::vertex::ascending;
 use crate::view::BasisView;
 use frac_core::Exact;
 use loss_model::{Basis, Exchange, Segment, Short, Vertex};
-use tableau_model::Failure;
+use tableau_model::{Breakpoint, Failure, ascending};
 
 impl<'a, F: Exact> BasisView<'a, F> {
     /// The step at a crossing, if it is below hi.

@@ -15,7 +15,7 @@ use Rattle.basic_solution.specs.declared.solution.BasicSolution.{BasicSolution}
 use Rattle.basic_solution.specs.Solutions.{IsSolution}
 use Rattle.fraction_tableau.specs.Kept.{Kept, place}
 use Rattle.fraction_tableau.specs.Next.{IsDualFault}
-use Rattle.fraction_tableau.specs.Standing.{AreDuals}
+use Rattle.tableau_model.specs.Standing.{AreDuals}
 use Rattle.fraction_tableau.proofs.NextSteps.{duals_here}
 use Rattle.fraction_tableau.proofs.Refusals.{short_weaker}
 use Rattle.rank_inversion.specs.declared.course.Course.{Course}

@@ -28,18 +28,18 @@ use Rattle.walk_model.specs.Families.{IsOptimalIn, dual_in}
 use Rattle.walk_model.specs.Walks.{IsFirstMover, IsNextBreak, IsWalkingStep}
 use Rattle.walk_model.specs.WalkTrails.{is_within}
 use Rattle.walk_model.proofs.Lines.{decide}
-use Rattle.fraction_tableau.specs.declared.crossings.Breakpoint.{Breakpoint}
-use Rattle.fraction_tableau.specs.Crossings.{IsCrossingAt, IsFirstOf}
-use Rattle.fraction_tableau.specs.Inverses.{HasValueAt}
+use Rattle.tableau_model.specs.declared.breakpoint.Breakpoint.{Breakpoint}
+use Rattle.tableau_model.specs.Crossings.{IsCrossingAt, IsFirstOf}
+use Rattle.tableau_model.specs.Rows.{HasValueAt}
 use Rattle.fraction_tableau.specs.Kept.{place}
 use Rattle.fraction_tableau.specs.LeastRatio.{IsFirstMoverOrNone}
 use Rattle.fraction_tableau.specs.Lines.{IsOrderSpill}
-use Rattle.fraction_tableau.proofs.Crossed.{above_test}
+use Rattle.tableau_model.proofs.Tests.{above_test}
 use Rattle.fraction_tableau.proofs.Inverses.{basis_of}
-use Rattle.fraction_tableau.proofs.Lists.{value_read}
+use Rattle.tableau_model.proofs.Lists.{value_read}
 use Rattle.fraction_tableau.proofs.NextSteps.{standing_by}
 use Rattle.fraction_tableau.proofs.Places.{kept_is_place}
-use Rattle.fraction_tableau.proofs.Vertices.{is_vertex}
+use Rattle.tableau_model.proofs.Vertices.{is_vertex}
 use Rattle.rank_walk_model.specs.Crossings.{parameter_of, bound_towards}
 use Rattle.rank_walk_model.specs.RankWalks.{Way, rise, fall, tested, ray}
 use Rattle.rank_walk_model.specs.Ends.{AreValuesOf}

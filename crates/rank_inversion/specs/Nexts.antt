@@ -12,7 +12,7 @@ use Rattle.basis_model.specs.Basis.{dual_value}
 use Rattle.pivot_model.specs.Steps.{moves}
 use Rattle.walk_model.specs.Walks.{IsNextBreak, IsWalkingStep}
 use Rattle.walk_model.specs.WalkTrails.{is_within}
-use Rattle.fraction_tableau.specs.declared.crossings.Breakpoint.{Breakpoint}
+use Rattle.tableau_model.specs.declared.breakpoint.Breakpoint.{Breakpoint}
 use Rattle.rank_tableau.specs.declared.finding.Finding.{Finding}
 use Rattle.rank_tableau.specs.declared.finding.Finding.TheVariants.{Step, Past, Stuck}
 use Rattle.rank_inversion.specs.declared.station.Station.{Station}

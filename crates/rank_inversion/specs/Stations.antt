@@ -13,7 +13,7 @@ use Rattle.pivot_model.specs.declared.direction.Direction.{Direction}
 use Rattle.pivot_model.specs.Spills.{IsCostSpill}
 use Rattle.walk_model.specs.WalkSpills.{IsCrossingOperation}
 use Rattle.fraction_tableau.specs.Kept.{IsKept, place}
-use Rattle.fraction_tableau.specs.Standing.{AreDuals}
+use Rattle.tableau_model.specs.Standing.{AreDuals}
 use Rattle.rank_walk_model.specs.Crossings.{bound_towards}
 use Rattle.rank_inversion.specs.declared.station.Station.{Station}
 use Rattle.rank_inversion.specs.Courses.{tau_of, Moves}

@@ -14,7 +14,7 @@ ghost use Rattle.rank_inversion.specs.Nexts.{IsFound, IsSpillHere, weighed_value
 
 use crate::station::Station;
 use frac_core::{Exact, List};
-use fraction_tableau::by_row;
+use tableau_model::by_row;
 use loss_model::{Exchange, Quantity, Short, Site, Spill, over_at, plus_product, times_at};
 use rank_tableau::Finding;
 

@@ -6,7 +6,7 @@ ghost use Rattle.loss_model.specs.Spill.{AtSome};
 ghost use Rattle.pivot_model.specs.Spills.{direction_number, IsCostSpill};
 ghost use Rattle.walk_model.specs.Families.{IsOptimalIn};
 ghost use Rattle.walk_model.specs.Walks.{IsNextBreak};
-ghost use Rattle.fraction_tableau.specs.Crossings.{IsCrossingAt, IsFirstOf};
+ghost use Rattle.tableau_model.specs.Crossings.{IsCrossingAt, IsFirstOf};
 ghost use Rattle.rank_walk_model.specs.Crossings.{bound_towards};
 ghost use Rattle.rank_steps.specs.Ways.{way_of, direction_for, IsDirectionBy};
 ghost use Rattle.rank_inversion.specs.Courses.{tau_of, parameter_at, family_of, Moves, crossing_at};
@@ -15,7 +15,8 @@ ghost use Rattle.rank_inversion.specs.Stations.{IsStation, sample_at, rows_at, e
 use crate::course::Course;
 use basic_solution::BasicSolution;
 use frac_core::{Exact, List};
-use fraction_tableau::{Breakpoint, FractionTableau, sooner};
+use fraction_tableau::FractionTableau;
+use tableau_model::{Breakpoint, sooner};
 use loss_model::{Quantity, Site, Spill, minus_at, over_at};
 use pivot_model::Direction;
 use rank_steps::{Way, direction_of};

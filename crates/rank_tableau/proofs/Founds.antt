@@ -15,8 +15,8 @@ use Rattle.walk_model.specs.Walks.{IsNextBreak, IsFirstMover, IsWalkingStep}
 use Rattle.rank_walk_model.specs.RankWalks.{Way, rise, fall, tested}
 use Rattle.walk_model.specs.WalkTrails.{is_within}
 use Rattle.rank_walk_model.specs.Crossings.{parameter_of, bound_towards, IsMoving}
-use Rattle.fraction_tableau.specs.declared.crossings.Breakpoint.{Breakpoint}
-use Rattle.fraction_tableau.specs.Crossings.{IsFirst}
+use Rattle.tableau_model.specs.declared.breakpoint.Breakpoint.{Breakpoint}
+use Rattle.tableau_model.specs.Crossings.{IsFirst}
 use Rattle.whole_rows.specs.Scaled.{unscaled}
 use Rattle.whole_inverse.specs.Squares.{inverse_of}
 use Rattle.whole_rows.specs.declared.factor.Factor.{Factor}

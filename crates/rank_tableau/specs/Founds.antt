@@ -12,8 +12,8 @@ use Rattle.rank_walk_model.specs.RankWalks.{tested}
 use Rattle.basis_model.specs.Basis.{dual_value}
 use Rattle.rank_walk_model.specs.Crossings.{parameter_of, bound_towards, IsMoving}
 use Rattle.tableau_model.specs.Places.{Place, at_of, sample_of}
-use Rattle.fraction_tableau.specs.declared.crossings.Breakpoint.{Breakpoint}
-use Rattle.fraction_tableau.specs.Crossings.{IsFirst}
+use Rattle.tableau_model.specs.declared.breakpoint.Breakpoint.{Breakpoint}
+use Rattle.tableau_model.specs.Crossings.{IsFirst}
 use Rattle.whole_inverse.specs.Shares.{share}
 use Rattle.whole_steps.specs.declared.station.Station.{Station}
 use Rattle.whole_steps.specs.declared.crossings.Quotient.{Quotient}

@@ -12,7 +12,7 @@ use crate::course::Course;
 use crate::reach::{Square, is_beyond};
 use crate::weight::{factor_of, weight_of};
 use frac_core::Exact;
-use fraction_tableau::Breakpoint;
+use tableau_model::Breakpoint;
 use loss_model::Exchange;
 use rank_steps::{WholeCourse, entering_row, first_crossing};
 use whole_inverse::Obstacle;

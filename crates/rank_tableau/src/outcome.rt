@@ -16,7 +16,7 @@ use crate::rays::ray_at;
 use crate::reach::Square;
 use crate::weight::factor_of;
 use frac_core::{Exact, List};
-use fraction_tableau::{Breakpoint, by_row};
+use tableau_model::{Breakpoint, by_row};
 use loss_model::{Beyond, Bound, End, Exchange};
 use whole_inverse::Obstacle;
 use whole_rows::Factor;

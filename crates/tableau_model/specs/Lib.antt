@@ -3,3 +3,8 @@ pub mod Questions
 pub mod Refusals
 pub mod Answers
 pub mod WalkAnswers
+pub mod Rows
+pub mod Standing
+pub mod Crossings
+pub mod Slopes
+pub mod Turns

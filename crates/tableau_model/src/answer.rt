@@ -1,6 +1,7 @@
 //! What is answered at a basis.
 use frac_core::List;
-use loss_model::Vertex;
+use loss_model::{Side, Vertex};
+use pivot_model::Direction;
 
 /// The exchange by which a row takes a position of the basis.
 #[derive(Clone, Copy)]
@@ -14,4 +15,21 @@ pub struct Step {
 pub struct Fitted<F> {
     pub vertex: Vertex<F>,
     pub basic: List<F>,
+}
+
+/// What a vertex is made of: the coefficients, the sides by row, and the dual values of the basis by
+/// position.
+#[derive(Drop)]
+pub struct Standing<F> {
+    pub coef: List<F>,
+    pub sides: List<Side>,
+    pub duals: List<F>,
+}
+
+/// A slope of the loss: that of a position in a direction.
+#[derive(Clone, Copy)]
+pub struct Leaving<F> {
+    pub position: u32,
+    pub direction: Direction,
+    pub slope: F,
 }

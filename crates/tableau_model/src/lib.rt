@@ -3,12 +3,17 @@
 //!
 //! Two bodies can keep a basis, and answer. To the loops a basis is a `Place`: a problem, the rows of the basis
 //! by position, and the inverse of their entries in ℚ. The crate has that definition, the questions, what
-//! their answers say, and the types of steps and refusals. It stands on the steps of `pivot_model` and the walks
-//! of `walk_model`, and has no code.
+//! their answers say, and the types of steps and refusals; and what both bodies need to answer: the rows of a basis in
+//! order, the first crossing and the least slope of several. It stands on the steps of `pivot_model` and the walks of
+//! `walk_model`.
 #![tactic(auto)]
 
 mod answer;
+mod breakpoint;
 mod refusal;
+mod rows;
 
-pub use answer::{Fitted, Step};
+pub use answer::{Fitted, Leaving, Standing, Step};
+pub use breakpoint::{Breakpoint, sooner};
 pub use refusal::{Failure, Refusal};
+pub use rows::{ascending, by_row, position_of};

@@ -13,9 +13,9 @@ use Rattle.walk_model.specs.Walks.{Crosses, IsNextBreak}
 use Rattle.walk_model.proofs.Breaks.{as_computed}
 use Rattle.walk_model.proofs.Slopes.{crossing}
 use Rattle.walk_model.proofs.Trails.{below_from}
-use Rattle.fraction_tableau.specs.declared.crossings.Breakpoint.{Breakpoint}
-use Rattle.fraction_tableau.specs.Crossings.{IsFirst, IsFirstOf}
-use Rattle.fraction_tableau.proofs.Soonest.{IsCrossingTowards as IsTowards}
+use Rattle.tableau_model.specs.declared.breakpoint.Breakpoint.{Breakpoint}
+use Rattle.tableau_model.specs.Crossings.{IsFirst, IsFirstOf}
+use Rattle.tableau_model.proofs.Soonest.{IsCrossingTowards as IsTowards}
 use Rattle.whole_inverse.specs.Shares.{share}
 use Rattle.whole_solution.proofs.Numbers.{share-neg}
 use Rattle.whole_inverse.proofs.Turned.{share-quotient}

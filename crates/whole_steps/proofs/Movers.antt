@@ -3,7 +3,7 @@ use Rattle.std.specs.Prelude.{◌≡◌, ◌≢◌, ℕ, ℤ, ◌<◌, ◌≤◌
 use Rattle.std.proofs.Common.{arith, refl, sym, ap, ap₂, ◌∙◌}
 use Rattle.std.proofs.lemmas.Int.{ints}
 use Rattle.frac_core.proofs.Signs.{some_size}
-use Rattle.fraction_tableau.proofs.Moving.{change_turned}
+use Rattle.tableau_model.proofs.Turns.{change_turned}
 use Rattle.rational_laws.specs.Solver.{negated, ◌⊠◌, v0, v1}
 use Rattle.rational_laws.specs.Rational.{ℚ, ◌*ℚ◌, inverse, whole}
 use Rattle.rational_laws.proofs.RationalLaws.{ring_ℚ}
@@ -25,7 +25,8 @@ use Rattle.loss_model.proofs.Sides.{side_read}
 use Rattle.whole_steps.specs.declared.full_line.FullLine.{FullLine}
 use Rattle.whole_steps.specs.declared.line.Line.{Line}
 use Rattle.whole_steps.specs.declared.line.Mover.{Mover}
-use Rattle.whole_steps.specs.Lines.{turned_by, model, at_of, inverse_at, over_of, residual_of, IsLine, IsFullLine, IsMover, is_moving}
+use Rattle.tableau_model.specs.Turns.{turned_by}
+use Rattle.whole_steps.specs.Lines.{model, at_of, inverse_at, over_of, residual_of, IsLine, IsFullLine, IsMover, is_moving}
 use Rattle.whole_steps.specs.Ties.{IsTied}
 use Rattle.whole_steps.proofs.Signs.{abs_share, turned_share}
 

@@ -15,7 +15,7 @@ use Rattle.walk_model.proofs.Slopes.{nothing_added}
 use Rattle.whole_rows.specs.declared.rows.WholeRow.{WholeRow}
 use Rattle.whole_rows.specs.Wholes.{sample_of_rows}
 use Rattle.whole_solution.proofs.Reading.{row_read}
-use Rattle.whole_steps.specs.Lines.{turned_by}
+use Rattle.tableau_model.specs.Turns.{turned_by}
 use Rattle.whole_steps.specs.Stations.{cost_of, cost_part}
 
 -- the cost of a row that was read

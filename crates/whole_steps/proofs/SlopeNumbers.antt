@@ -11,8 +11,8 @@ use Rattle.pivot_model.specs.declared.direction.Direction.TheVariants.{Upward, D
 use Rattle.pivot_model.specs.Steps.{slope, HasNoNegativeSlope}
 use Rattle.walk_model.specs.Families.{over_quantiles}
 use Rattle.walk_model.proofs.Slopes.{affine, slope_is}
-use Rattle.fraction_tableau.specs.Slopes.{IsSteeper, IsLesser, IsLeast}
-use Rattle.fraction_tableau.proofs.SlopeLaws.{leaves, none_negative}
+use Rattle.tableau_model.specs.Slopes.{IsSteeper, IsLesser, IsLeast}
+use Rattle.tableau_model.proofs.SlopeLaws.{leaves, none_negative}
 use Rattle.whole_inverse.specs.Shares.{share}
 use Rattle.whole_steps.specs.declared.station.Station.{Station}
 use Rattle.whole_steps.specs.Stations.{model, at_of, inverse_at, over_of, slope_at}

@@ -7,7 +7,7 @@ use Rattle.pivot_model.specs.declared.direction.Direction.{Direction}
 use Rattle.pivot_model.specs.Duals.{◌<ℚ◌}
 use Rattle.walk_model.specs.Families.{over_quantiles}
 use Rattle.walk_model.specs.SlopeLaws.{quotient_of}
-use Rattle.fraction_tableau.specs.declared.crossings.Breakpoint.{Breakpoint}
+use Rattle.tableau_model.specs.declared.breakpoint.Breakpoint.{Breakpoint}
 use Rattle.whole_steps.specs.declared.station.Station.{Station}
 use Rattle.whole_steps.specs.declared.crossings.Quotient.{Quotient}
 use Rattle.whole_steps.specs.Stations.{model, at_of, inverse_at, slope_at}

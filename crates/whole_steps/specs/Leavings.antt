@@ -4,8 +4,8 @@ use Rattle.rational_laws.specs.Fraction.{rational}
 use Rattle.pivot_model.specs.declared.direction.Direction.{Direction}
 use Rattle.pivot_model.specs.Steps.{slope, HasNoNegativeSlope, IsLeaving, IsEntering, IsSolvingStep}
 use Rattle.tableau_model.specs.declared.answer.Step.{Step}
-use Rattle.fraction_tableau.specs.declared.slopes.Leaving.{Leaving as Slope}
-use Rattle.fraction_tableau.specs.Slopes.{IsLesser}
+use Rattle.tableau_model.specs.declared.answer.Leaving.{Leaving as Slope}
+use Rattle.tableau_model.specs.Slopes.{IsLesser}
 use Rattle.whole_steps.specs.declared.station.Station.{Station}
 use Rattle.whole_steps.specs.Stations.{model, at_of, inverse_at, over_of}
 use Rattle.whole_steps.specs.declared.quantile.Quantile.{Quantile}

@@ -1,13 +1,11 @@
 -- Inner. The line along which a position leaves a basis of rows in whole numbers, and the rows that move on it.
 use Rattle.std.specs.Prelude.{◌≡◌, ◌≢◌, ◌⊎◌, ℕ, ℤ, ◌<◌, ◌≤◌, Bool, true, false, length, slice_get, slice_index}
 use Rattle.std.specs.Prelude.{Option, Some, None, pos}
-use Rattle.rational_laws.specs.Rational.{ℚ, ◌*ℚ◌, neg_ℚ}
+use Rattle.rational_laws.specs.Rational.{ℚ, ◌*ℚ◌}
 use Rattle.loss_model.specs.Sample.{Sample, residual}
 use Rattle.loss_model.specs.Spill.{abs_ℚ}
 use Rattle.basis_model.specs.Perturbed.{ratio}
 use Rattle.basis_model.specs.Basis.{IsBasis, coord, coefficient, outside_row, side_at}
-use Rattle.pivot_model.specs.declared.direction.Direction.{Direction}
-use Rattle.pivot_model.specs.declared.direction.Direction.TheVariants.{Upward, Downward}
 use Rattle.pivot_model.specs.Steps.{moves, is_before}
 use Rattle.whole_inverse.specs.Shares.{share, share_at}
 use Rattle.whole_inverse.specs.Squares.{inverse_of}
@@ -22,11 +20,6 @@ use Rattle.whole_steps.specs.declared.line.Line.{Line}
 use Rattle.whole_steps.specs.declared.line.Mover.{Mover}
 use Rattle.whole_steps.specs.declared.near_line.Look.{Look}
 use Rattle.whole_steps.specs.declared.near_line.NearLine.{NearLine}
-
--- a change in a direction
-abbrev pub turned_by : Direction → ℚ → ℚ
-turned_by Upward x = x
-turned_by Downward x = neg_ℚ x
 
 -- the problem of a line as a sample
 abbrev pub model : Line → Sample

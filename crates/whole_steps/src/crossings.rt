@@ -3,15 +3,15 @@ ghost use Rattle.std.specs.Prelude.{◌≡◌, ◌<◌, ◌≤◌, length, IfOk,
 ghost use Rattle.std.specs.Ordering.{is_lt};
 ghost use Rattle.rational_laws.specs.Fraction.{rational};
 ghost use Rattle.rational_laws.specs.Order.{cmp_ℚ};
-ghost use Rattle.fraction_tableau.specs.Crossings.{IsSooner, IsCrossingAt, IsFirstOf};
+ghost use Rattle.tableau_model.specs.Crossings.{IsSooner, IsCrossingAt, IsFirstOf};
 ghost use Rattle.whole_steps.specs.Stations.{IsStation};
 ghost use Rattle.whole_steps.specs.Crossings.{quotient_value, HasDivisor, falls_at, quotient_at, IsCrossingTowards};
 
 use crate::station::Station;
 use basis_model::Part;
 use frac_core::Exact;
-use fraction_tableau::Breakpoint;
 use pivot_model::Direction;
+use tableau_model::Breakpoint;
 use whole_inverse::Obstacle;
 use whole_rows::value_over;
 use wide_int::Natural;

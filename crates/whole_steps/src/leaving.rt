@@ -1,6 +1,6 @@
 //! The position that leaves a basis at a quantile.
 ghost use Rattle.std.specs.Prelude.{◌≡◌, ℕ, ◌<◌, ◌≤◌, length, IfOk};
-ghost use Rattle.fraction_tableau.specs.Slopes.{IsSteeper};
+ghost use Rattle.tableau_model.specs.Slopes.{IsSteeper};
 ghost use Rattle.whole_steps.specs.Stations.{IsStation};
 ghost use Rattle.whole_steps.specs.Quantiles.{IsQuantile, number_over};
 ghost use Rattle.whole_steps.specs.Leavings.{leaving_of, number_at, IsLesserAt, IsLeavingOrNone};

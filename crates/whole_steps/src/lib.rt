@@ -15,7 +15,7 @@
 //! that are left (Hoare 1961), by the leading bits of their ratios, and in full among all rows where these don't lead to it; nothing is
 //! promised of either: the row is then tested in one pass over the rivals, and that test is the whole proof.
 //!
-//! It stands on `whole_solution` for what stands at the basis, and on `fraction_tableau` for the laws of a first crossing.
+//! It stands on `whole_solution` for what stands at the basis, and on `tableau_model` for the laws of a first crossing.
 //!
 //! `whole_tableau` calls it so:
 //! ```text

@@ -5,7 +5,8 @@ ghost use Rattle.rational_laws.specs.Rational.{whole};
 ghost use Rattle.rational_laws.specs.Order.{cmp_ℚ};
 ghost use Rattle.pivot_model.specs.Steps.{is_towards};
 ghost use Rattle.whole_inverse.specs.Shares.{share};
-ghost use Rattle.whole_steps.specs.Lines.{IsLine, IsMover, IsEarlierMover, IsJoined, turned_by};
+ghost use Rattle.tableau_model.specs.Turns.{turned_by};
+ghost use Rattle.whole_steps.specs.Lines.{IsLine, IsMover, IsEarlierMover, IsJoined};
 
 use crate::less::is_surely_less;
 use loss_model::Side;

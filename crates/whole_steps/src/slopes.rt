@@ -1,7 +1,7 @@
 //! The slopes at a basis, each affine in the quantile.
 ghost use Rattle.std.specs.Prelude.{◌≡◌, ℤ, ◌<◌, length, IfOk, pos};
 ghost use Rattle.whole_inverse.specs.Shares.{share};
-ghost use Rattle.whole_steps.specs.Lines.{turned_by};
+ghost use Rattle.tableau_model.specs.Turns.{turned_by};
 ghost use Rattle.whole_steps.specs.Stations.{IsStation, over_of, slope_at};
 
 use crate::station::Station;

@@ -4,8 +4,8 @@ use Rattle.std.proofs.Common.{◌≡◌, sym, ap, subst, ◌∙◌}
 use Rattle.rational_laws.specs.Fraction.{rational}
 use Rattle.rational_laws.specs.Rational.{ℚ, whole}
 use Rattle.rational_laws.specs.Order.{cmp_ℚ}
-use Rattle.fraction_tableau.specs.Crossings.{Gains}
-use Rattle.fraction_tableau.proofs.Crossed.{below_test}
+use Rattle.fraction_tableau.specs.Meetings.{Gains}
+use Rattle.tableau_model.proofs.Tests.{below_test}
 use Rattle.fraction_tableau.proofs.crossings.passes.Goals as goal
 
 pub returns-in-Downward : goal.returns-in-Downward

@@ -1,6 +1,6 @@
 use Rattle.std.proofs.Common.{rules, ◌<◌, length, refl, sym, subst}
 use Rattle.std.proofs.lemmas.Result.{err_from_is_err_and}
-use Rattle.fraction_tableau.proofs.Lists.{value_read}
+use Rattle.tableau_model.proofs.Lists.{value_read}
 use Rattle.fraction_tableau.proofs.Moving.{mover_is, ratio_spill, size_some}
 use Rattle.fraction_tableau.proofs.movers.mover_of.Goals as goal
 

@@ -1,6 +1,6 @@
 use Rattle.std.proofs.Common.{◌<◌, ℕ, length, refl, sym, subst}
 use Rattle.lex_rule.specs.declared.less.Ratio.{Ratio}
-use Rattle.fraction_tableau.proofs.Lists.{value_read}
+use Rattle.tableau_model.proofs.Lists.{value_read}
 use Rattle.fraction_tableau.proofs.Ties.{same_row, ratio_at}
 use Rattle.fraction_tableau.proofs.order.ratio_of.Goals as goal
 

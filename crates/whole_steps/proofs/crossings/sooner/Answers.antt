@@ -2,7 +2,7 @@
 use Rattle.std.proofs.Common.{Some, refl, sym, subst, ◌∙◌, inr}
 use Rattle.rational_laws.specs.Fraction.{rational}
 use Rattle.rational_laws.proofs.Signs.{not_below}
-use Rattle.fraction_tableau.specs.Crossings.{IsSooner}
+use Rattle.tableau_model.specs.Crossings.{IsSooner}
 use Rattle.whole_steps.specs.Crossings.{quotient_value}
 use Rattle.whole_steps.proofs.crossings.sooner.Goals as goal
 

@@ -1,6 +1,6 @@
 -- Position by position.
 use Rattle.std.proofs.Common.{rules, ◌≡◌, ◌≤ℤ◌, ◌<ℤ◌, pos, arith, ◌∙◌}
-use Rattle.fraction_tableau.proofs.SlopeLaws.{one_least, one_more}
+use Rattle.tableau_model.proofs.SlopeLaws.{one_least, one_more}
 use Rattle.whole_steps.specs.Stations.{model, at_of, inverse_at}
 use Rattle.whole_steps.specs.Quantiles.{theta_of, number_over}
 use Rattle.whole_steps.specs.Leavings.{scale_of, leaving_of}

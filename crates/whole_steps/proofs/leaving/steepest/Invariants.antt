@@ -1,4 +1,4 @@
-use Rattle.fraction_tableau.specs.Slopes.{IsLeast}
+use Rattle.tableau_model.specs.Slopes.{IsLeast}
 use Rattle.whole_steps.specs.Stations.{model, at_of, inverse_at}
 use Rattle.whole_steps.specs.Quantiles.{theta_of, number_over}
 use Rattle.whole_steps.specs.Leavings.{scale_of, leaving_of}

@@ -5,7 +5,7 @@ use Rattle.std.specs.Ordering.{is_gt}
 use Rattle.rational_laws.specs.Rational.{whole}
 use Rattle.rational_laws.specs.Order.{cmp_ℚ}
 use Rattle.whole_inverse.specs.Shares.{share}
-use Rattle.whole_steps.specs.Lines.{turned_by}
+use Rattle.tableau_model.specs.Turns.{turned_by}
 use Rattle.whole_steps.proofs.Signs.{rises_by}
 use Rattle.whole_steps.proofs.line.rises.Goals as goal
 

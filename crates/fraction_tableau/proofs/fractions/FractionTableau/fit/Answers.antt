@@ -3,7 +3,7 @@ use Rattle.rational_laws.specs.Fraction.{rational}
 use Rattle.rational_laws.proofs.Lists.{contains_item}
 use Rattle.fraction_tableau.specs.Kept.{place}
 use Rattle.fraction_tableau.proofs.Places.{kept_is_place}
-use Rattle.fraction_tableau.proofs.Vertices.{distinct_rows, is_vertex, basic_duals}
+use Rattle.tableau_model.proofs.Vertices.{distinct_rows, is_vertex, basic_duals}
 use Rattle.fraction_tableau.proofs.fractions.FractionTableau.fit.Goals as goal
 
 pub ascending-requires : goal.ascending-requires

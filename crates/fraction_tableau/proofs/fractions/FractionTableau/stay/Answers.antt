@@ -3,7 +3,7 @@ use Rattle.std.proofs.lemmas.Result.{err_from_is_err_and}
 use Rattle.rational_laws.proofs.Lists.{contains_item}
 use Rattle.fraction_tableau.specs.Kept.{place}
 use Rattle.fraction_tableau.proofs.Places.{kept_is_place}
-use Rattle.fraction_tableau.proofs.Vertices.{distinct_rows}
+use Rattle.tableau_model.proofs.Vertices.{distinct_rows}
 use Rattle.fraction_tableau.proofs.Stayed.{segment_here}
 use Rattle.fraction_tableau.proofs.fractions.FractionTableau.stay.Goals as goal
 

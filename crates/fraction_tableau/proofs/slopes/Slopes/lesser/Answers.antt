@@ -2,7 +2,7 @@ use Rattle.std.specs.Ordering.{is_lt}
 use Rattle.std.proofs.Common.{sym, ap, ◌∙◌}
 use Rattle.rational_laws.specs.Fraction.{rational}
 use Rattle.fraction_tableau.specs.Slopes.{model, rows_of, inverse_of}
-use Rattle.fraction_tableau.proofs.SlopeLaws.{down_lesser, up_lesser}
+use Rattle.tableau_model.proofs.SlopeLaws.{down_lesser, up_lesser}
 use Rattle.fraction_tableau.proofs.slopes.Slopes.lesser.Goals as goal
 
 pub returns-then-is_lt-clause-lesser : goal.returns-then-is_lt-clause-lesser

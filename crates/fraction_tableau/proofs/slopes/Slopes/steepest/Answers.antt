@@ -1,8 +1,10 @@
 use Rattle.std.proofs.Common.{◌≡◌, subst, arith, pos, ◌≤ℤ◌, ◌<ℤ◌}
 use Rattle.std.proofs.lemmas.Int.{ints}
 use Rattle.rational_laws.specs.Fraction.{rational}
-use Rattle.fraction_tableau.specs.Slopes.{IsLeast, model, rows_of, inverse_of}
-use Rattle.fraction_tableau.proofs.SlopeLaws.{one_more, none_negative, leaves, from_sign, from_negative_sign}
+use Rattle.tableau_model.specs.Slopes.{IsLeast}
+use Rattle.fraction_tableau.specs.Slopes.{model, rows_of, inverse_of}
+use Rattle.tableau_model.proofs.SlopeLaws.{one_more, none_negative, leaves}
+use Rattle.fraction_tableau.proofs.SlopeLaws.{from_sign, from_negative_sign}
 use Rattle.fraction_tableau.proofs.slopes.Slopes.steepest.Goals as goal
 
 pub loop-position-preserved : goal.loop-position-preserved

@@ -1,5 +1,6 @@
 use Rattle.rational_laws.specs.Fraction.{rational}
-use Rattle.fraction_tableau.specs.Slopes.{IsLeast, model, rows_of, inverse_of}
+use Rattle.tableau_model.specs.Slopes.{IsLeast}
+use Rattle.fraction_tableau.specs.Slopes.{model, rows_of, inverse_of}
 use Rattle.fraction_tableau.proofs.slopes.Slopes.steepest.Given as goal
 
 abbrev pub invariant-loop-position : goal.invariant-loop-position

@@ -3,10 +3,10 @@ use Rattle.std.proofs.lemmas.Result.{err_from_is_err_and}
 use Rattle.pivot_model.specs.declared.direction.Direction.TheVariants.{Upward, Downward}
 use Rattle.walk_model.specs.SlopeLaws.{crossing_of}
 use Rattle.fraction_tableau.specs.Views.{sample_at, rows_at, entries_at}
-use Rattle.fraction_tableau.specs.Crossings.{passes_at}
+use Rattle.tableau_model.specs.Crossings.{passes_at}
 use Rattle.fraction_tableau.proofs.Inverses.{basis_of}
 use Rattle.fraction_tableau.proofs.Crossed.{met_here, crossing_here, crossing_spill}
-use Rattle.fraction_tableau.proofs.Soonest.{one_position}
+use Rattle.tableau_model.proofs.Soonest.{one_position}
 use Rattle.fraction_tableau.proofs.view.BasisView.crossing_at.Goals as goal
 
 pub returns-in_err-up-clause-spill : goal.returns-in_err-up-clause-spill

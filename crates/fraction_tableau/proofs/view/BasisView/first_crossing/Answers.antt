@@ -1,8 +1,8 @@
 use Rattle.std.proofs.Common.{◌≡◌, arith, subst}
 use Rattle.walk_model.specs.SlopeLaws.{crossing_of}
 use Rattle.fraction_tableau.specs.Views.{sample_at, rows_at, entries_at}
-use Rattle.fraction_tableau.specs.Crossings.{passes_at, IsFirstOf}
-use Rattle.fraction_tableau.proofs.Soonest.{one_more}
+use Rattle.tableau_model.specs.Crossings.{passes_at, IsFirstOf}
+use Rattle.tableau_model.proofs.Soonest.{one_more}
 use Rattle.fraction_tableau.proofs.view.BasisView.first_crossing.Goals as goal
 
 pub loop-position-preserved : goal.loop-position-preserved

@@ -1,6 +1,6 @@
 use Rattle.walk_model.specs.SlopeLaws.{crossing_of}
 use Rattle.fraction_tableau.specs.Views.{sample_at, rows_at, entries_at}
-use Rattle.fraction_tableau.specs.Crossings.{passes_at, IsFirstOf}
+use Rattle.tableau_model.specs.Crossings.{passes_at, IsFirstOf}
 use Rattle.fraction_tableau.proofs.view.BasisView.first_crossing.Given as goal
 
 abbrev pub invariant-loop-position : goal.invariant-loop-position

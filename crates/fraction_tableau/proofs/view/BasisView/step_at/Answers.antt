@@ -5,9 +5,9 @@ use Rattle.rational_laws.specs.Fraction.{rational}
 use Rattle.fraction_tableau.specs.Lines.{IsOrderSpill}
 use Rattle.fraction_tableau.specs.Views.{sample_at, rows_at, entries_at}
 use Rattle.fraction_tableau.specs.WalkingSteps.{IsStepSpillAt}
-use Rattle.fraction_tableau.proofs.Crossed.{not_below_by, is_below_by}
+use Rattle.tableau_model.proofs.Tests.{not_below_by, is_below_by}
 use Rattle.fraction_tableau.proofs.Inverses.{basis_of}
-use Rattle.fraction_tableau.proofs.Stepping.{some_moves}
+use Rattle.tableau_model.proofs.Steps.{some_moves}
 use Rattle.fraction_tableau.proofs.Refusals.{short_weaker}
 use Rattle.fraction_tableau.proofs.view.BasisView.step_at.Goals as goal
 

@@ -5,8 +5,9 @@ use Rattle.rational_laws.specs.Fraction.{rational}
 use Rattle.walk_model.specs.WalkSpills.{IsStaySpill}
 use Rattle.fraction_tableau.specs.Views.{sample_at, rows_at, entries_at}
 use Rattle.fraction_tableau.specs.WalkingSteps.{IsStepSpillAt}
-use Rattle.fraction_tableau.proofs.Crossed.{not_below_by, is_below_by}
-use Rattle.fraction_tableau.proofs.Stepping.{none_behind, none_left, crossings_spill, first_crosses, step_is, step_spill}
+use Rattle.tableau_model.proofs.Tests.{not_below_by, is_below_by}
+use Rattle.tableau_model.proofs.Steps.{none_behind}
+use Rattle.fraction_tableau.proofs.Stepping.{none_left, crossings_spill, first_crosses, step_is, step_spill}
 use Rattle.fraction_tableau.proofs.Refusals.{short_weaker}
 use Rattle.fraction_tableau.proofs.view.BasisView.step_from.Goals as goal
 
@@ -16,7 +17,7 @@ returns-then-not-is_lt-clause-step g c =
     let view = c.args.self.now in
     let from = rational (value c.args.from) in
     let hi = rational (value c.args.hi) in
-    none_behind value (sample_at value view) (rows_at value view) (entries_at value view) from hi (not_below_by from hi c.is_lt.result (c.is_lt.ensures ∙ ap is_lt c.compare.ensures) c.if-not-is_lt.true)
+    none_behind (sample_at value view) (rows_at value view) (entries_at value view) from hi (not_below_by from hi c.is_lt.result (c.is_lt.ensures ∙ ap is_lt c.compare.ensures) c.if-not-is_lt.true)
 
 pub returns-in-Ok-None-clause-step : goal.returns-in-Ok-None-clause-step
 returns-in-Ok-None-clause-step g c =

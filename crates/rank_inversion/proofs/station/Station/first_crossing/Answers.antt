@@ -1,4 +1,4 @@
-use Rattle.fraction_tableau.proofs.Soonest.{one_more}
+use Rattle.tableau_model.proofs.Soonest.{one_more}
 use Rattle.rank_inversion.specs.Courses.{Moves, crossing_at}
 use Rattle.rank_inversion.specs.Stations.{sample_at, rows_at, entries_at}
 use Rattle.rank_inversion.proofs.station.Station.first_crossing.Goals as goal

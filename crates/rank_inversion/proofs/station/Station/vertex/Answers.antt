@@ -1,7 +1,7 @@
 use Rattle.std.proofs.Common.{◌∙◌}
 use Rattle.fraction_tableau.specs.Kept.{place}
 use Rattle.fraction_tableau.proofs.Places.{kept_is_place}
-use Rattle.fraction_tableau.proofs.Vertices.{distinct_rows}
+use Rattle.tableau_model.proofs.Vertices.{distinct_rows}
 use Rattle.rank_inversion.proofs.StationLaws.{vertex_is}
 use Rattle.rank_inversion.proofs.station.Station.vertex.Goals as goal
 

@@ -1,5 +1,5 @@
 use Rattle.pivot_model.specs.declared.direction.Direction.TheVariants.{Upward, Downward}
-use Rattle.fraction_tableau.proofs.Soonest.{one_position}
+use Rattle.tableau_model.proofs.Soonest.{one_position}
 use Rattle.whole_steps.specs.Crossings.{quotient_value, falls_at, quotient_at}
 use Rattle.whole_steps.proofs.Crossed.{towards}
 use Rattle.whole_steps.proofs.station.Station.crossing_at.Goals as goal

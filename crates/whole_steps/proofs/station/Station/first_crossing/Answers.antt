@@ -1,6 +1,6 @@
 use Rattle.std.proofs.Common.{◌≡◌, arith, subst}
-use Rattle.fraction_tableau.specs.Crossings.{IsFirstOf}
-use Rattle.fraction_tableau.proofs.Soonest.{one_more}
+use Rattle.tableau_model.specs.Crossings.{IsFirstOf}
+use Rattle.tableau_model.proofs.Soonest.{one_more}
 use Rattle.whole_steps.specs.Crossings.{quotient_value, falls_at, quotient_at}
 use Rattle.whole_steps.proofs.station.Station.first_crossing.Goals as goal
 

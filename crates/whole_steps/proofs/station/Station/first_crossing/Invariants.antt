@@ -1,4 +1,4 @@
-use Rattle.fraction_tableau.specs.Crossings.{IsFirstOf}
+use Rattle.tableau_model.specs.Crossings.{IsFirstOf}
 use Rattle.whole_steps.specs.Crossings.{quotient_value, HasDivisor, falls_at, quotient_at}
 use Rattle.whole_steps.proofs.station.Station.first_crossing.Given as goal
 

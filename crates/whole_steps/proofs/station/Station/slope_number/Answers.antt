@@ -3,7 +3,7 @@ use Rattle.std.proofs.Common.{rules, ◌≡◌, to_z, of_z, ap, ap₂, ◌∙◌
 use mir.Syntax.{w128}
 use Rattle.rational_laws.specs.Rational.{◌-ℚ◌, whole}
 use Rattle.whole_inverse.specs.Shares.{share}
-use Rattle.whole_steps.specs.Lines.{turned_by}
+use Rattle.tableau_model.specs.Turns.{turned_by}
 use Rattle.whole_steps.specs.Stations.{model, at_of, inverse_at, over_of}
 use Rattle.whole_steps.proofs.Parts.{slope_by}
 use Rattle.whole_steps.proofs.station.Station.slope_number.Goals as goal

@@ -2,8 +2,8 @@ use Rattle.std.specs.Ordering.{is_lt}
 use Rattle.std.proofs.Common.{Some, refl, sym, ap, subst, ◌∙◌, inr}
 use Rattle.rational_laws.specs.Fraction.{rational}
 use Rattle.rational_laws.proofs.Signs.{not_below}
-use Rattle.fraction_tableau.specs.Crossings.{IsSooner}
-use Rattle.fraction_tableau.proofs.crossings.sooner.Goals as goal
+use Rattle.tableau_model.specs.Crossings.{IsSooner}
+use Rattle.tableau_model.proofs.breakpoint.sooner.Goals as goal
 
 pub returns-else-is_lt : goal.returns-else-is_lt
 returns-else-is_lt g c =

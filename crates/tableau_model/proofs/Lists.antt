@@ -8,7 +8,7 @@ use Rattle.rational_laws.specs.Fraction.{Fraction, rational}
 use Rattle.rational_laws.specs.Rational.{ℚ, whole}
 use Rattle.rational_laws.proofs.Lists.{pushed_last}
 use Rattle.loss_model.specs.Problem.{value_at}
-use Rattle.fraction_tableau.specs.Inverses.{HasValueAt}
+use Rattle.tableau_model.specs.Rows.{HasValueAt}
 
 pub get_front : {X : Type 0} (xs ys : List X) (k : ℕ) → k < length xs → slice_get (xs ++ ys) k ≡ slice_get xs k
 get_front [] ys k l = absurd (omega arith)

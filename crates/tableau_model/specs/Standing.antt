@@ -6,7 +6,7 @@ use Rattle.loss_model.specs.declared.vertex.Side.{Side}
 use Rattle.loss_model.specs.Problem.{value_at}
 use Rattle.basis_model.specs.Basis.{coefficient, side_at, dual_value}
 use Rattle.tableau_model.specs.Places.{Place, at_of, sample_of}
-use Rattle.fraction_tableau.specs.declared.standing.Standing.{Standing}
+use Rattle.tableau_model.specs.declared.answer.Standing.{Standing}
 
 module _ {F : Type 0} (value : F → Fraction) (h : Place F) where
   -- the coefficients by column

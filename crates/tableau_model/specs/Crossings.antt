@@ -1,37 +1,19 @@
--- Inner. Crossings of the dual values of a basis as they are computed, and the first of them.
+-- Inner. Crossings of the dual values of a basis, and the first of them.
 use Rattle.std.specs.Prelude.{◌≡◌, ◌⊎◌, ℕ, ◌<◌, Option, Some, None, pos}
 use Rattle.rational_laws.specs.Fraction.{Fraction, rational}
-use Rattle.rational_laws.specs.Rational.{ℚ, ◌-ℚ◌, ◌*ℚ◌, inverse, whole, ◌≤ℚ◌}
+use Rattle.rational_laws.specs.Rational.{ℚ, whole, ◌≤ℚ◌}
 use Rattle.loss_model.specs.Sample.{Sample}
 use Rattle.basis_model.specs.declared.part.Part.TheVariants.{Linear}
 use Rattle.pivot_model.specs.declared.direction.Direction.{Direction}
-use Rattle.pivot_model.specs.declared.direction.Direction.TheVariants.{Upward, Downward}
 use Rattle.pivot_model.specs.Duals.{◌<ℚ◌}
 use Rattle.walk_model.specs.Families.{over_quantiles, slope_part}
-use Rattle.fraction_tableau.specs.declared.crossings.Affine.{Affine}
-use Rattle.fraction_tableau.specs.declared.crossings.Breakpoint.{Breakpoint}
-
--- a dual value that gains so much on its bound in a direction passes beyond it
-abbrev pub Gains : Direction → ℚ → Type 0
-Gains Upward gain = whole (pos 0) <ℚ gain
-Gains Downward gain = gain <ℚ whole (pos 0)
+use Rattle.tableau_model.specs.declared.breakpoint.Breakpoint.{Breakpoint}
 
 -- the dual value at position j passes beyond its bound in a direction: the slope falls
 abbrev pub passes_at : Sample → (ℕ → ℕ) → (ℕ → ℕ → ℚ) → ℕ → Direction → Type 0
 passes_at p at a j d = slope_part (over_quantiles p) at a Linear j d <ℚ whole (pos 0)
 
 module _ {F : Type 0} (value : F → Fraction) where
-  -- how much a dual value gains on its bound
-  abbrev pub gain_on : Affine F → Affine F → ℚ
-  gain_on bound dual = rational (value dual.linear) -ℚ rational (value bound.linear)
-
-  -- where it meets the bound, if it passes beyond it
-  abbrev pub IsMeeting : ℕ → Direction → Affine F → Affine F → Option (Breakpoint F) → Type 0
-  IsMeeting j d bound dual None = ¬ Gains d (gain_on bound dual)
-  IsMeeting j d bound dual (Some b) =
-      (b.position ≡ j) × (b.direction ≡ d) × Gains d (gain_on bound dual)
-      × (rational (value b.theta) ≡ (rational (value bound.constant) -ℚ rational (value dual.constant)) *ℚ inverse (gain_on bound dual))
-
   -- of two the second is taken where it comes before, or where there is no first
   abbrev pub IsSooner : Option (Breakpoint F) → Option (Breakpoint F) → Option (Breakpoint F) → Type 0
   IsSooner None second taken = taken ≡ second

@@ -9,8 +9,8 @@ use Rattle.rational_laws.proofs.OrderLaws.{le_from_not}
 use Rattle.pivot_model.specs.declared.direction.Direction.{Direction}
 use Rattle.pivot_model.specs.declared.direction.Direction.TheVariants.{Upward, Downward}
 use Rattle.pivot_model.specs.Duals.{◌<ℚ◌}
-use Rattle.fraction_tableau.specs.declared.crossings.Breakpoint.{Breakpoint}
-use Rattle.fraction_tableau.specs.Crossings.{IsSooner, IsCrossingAt, IsFirstOf}
+use Rattle.tableau_model.specs.declared.breakpoint.Breakpoint.{Breakpoint}
+use Rattle.tableau_model.specs.Crossings.{IsSooner, IsCrossingAt, IsFirstOf}
 
 module _ {F : Type 0} (value : F → Fraction) (Passes : ℕ → Direction → Type 0) (crossing : ℕ → Direction → ℚ) where
   abbrev theta : Breakpoint F → ℚ

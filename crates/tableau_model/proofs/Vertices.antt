@@ -18,9 +18,9 @@ use Rattle.pivot_model.proofs.Among.{among_at, among_place}
 use Rattle.pivot_model.proofs.Sides.{sign, side_basic, side_outside, dual_at}
 use Rattle.pivot_model.proofs.Solved.{any_default}
 use Rattle.tableau_model.specs.Places.{Place, IsPlace, at_of, sample_of}
-use Rattle.fraction_tableau.specs.declared.standing.Standing.{Standing}
-use Rattle.fraction_tableau.specs.Inverses.{HasValueAt}
-use Rattle.fraction_tableau.specs.Standing.{AreCoefficients, AreSides, AreDuals, Stands}
+use Rattle.tableau_model.specs.declared.answer.Standing.{Standing}
+use Rattle.tableau_model.specs.Rows.{HasValueAt}
+use Rattle.tableau_model.specs.Standing.{AreCoefficients, AreSides, AreDuals, Stands}
 
 -- a row of the list is one of its first items
 pub among_from : (basis : List ℕ) (n i : ℕ) → length basis ≡ n → Contains basis i → is_among (slice_index basis) n i ≡ true
