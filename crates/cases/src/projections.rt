@@ -13,15 +13,23 @@ use natural::Natural;
 use ratio::{Integer, Ratio};
 use std::alloc::Global;
 
-fn gram_of(alloc: Global, text: &str) -> Option<Vec<List<i128>>> {
+fn row_of(alloc: Global, text: &str) -> Option<List<Integer>> {
+    let mut row = List::new(alloc);
+    for number in wholes_of(alloc, text)? {
+        row.add(Integer::new(alloc, number).ok()?).ok()?;
+    }
+    Some(row)
+}
+
+fn gram_of(alloc: Global, text: &str) -> Option<Vec<List<Integer>>> {
     let mut rows = Vec::new(alloc);
     for part in text.split(';') {
-        rows.push(List::from(wholes_of(alloc, part)?)).ok()?;
+        rows.push(row_of(alloc, part)?).ok()?;
     }
     Some(rows)
 }
 
-fn is_square(gram: &[List<i128>]) -> bool
+fn is_square(gram: &[List<Integer>]) -> bool
     ensures { IsTrue result → IsSquare (length gram.now) gram.now }
 {
     let size = gram.len();
@@ -46,7 +54,7 @@ fn tell_factors(told: &mut Told, factors: &Factors)
     }
 }
 
-fn tell_projection(told: &mut Told, gram: &[List<i128>])
+fn tell_projection(told: &mut Told, gram: &[List<Integer>])
     requires square { IsSquare (length gram.now) gram.now }
     requires some { 0 < length gram.now }
 {

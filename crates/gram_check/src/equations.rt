@@ -15,13 +15,12 @@ use std::alloc::Global;
 fn plus_product(
     alloc: Global,
     sum: &Integer,
-    entry: i128,
+    entry: &Integer,
     numerator: &Integer,
 ) -> Result<Integer, OutOfMemory>
-    ensures { IfOk result (λ n. n ≡ sum.now +ℤ entry *ℤ numerator.now) }
+    ensures { IfOk result (λ n. n ≡ sum.now +ℤ entry.now *ℤ numerator.now) }
 {
-    let factor = Integer::new(alloc, entry)?;
-    let product = factor.mul(alloc, numerator)?;
+    let product = entry.mul(alloc, numerator)?;
     let next = sum.add(alloc, &product)?;
     Ok(next)
 }
@@ -29,7 +28,7 @@ fn plus_product(
 /// The sum of the products of a row and numerators.
 fn sum_of_products(
     alloc: Global,
-    row: &[i128],
+    row: &[Integer],
     numerators: &[Integer],
 ) -> Result<Integer, OutOfMemory>
     requires { length row.now ≡ length numerators.now }
@@ -37,7 +36,7 @@ fn sum_of_products(
 {
     let mut sum = Integer::zero(alloc);
     for i in 0..row.len() {
-        sum = plus_product(alloc, &sum, row[i], &numerators[i])?;
+        sum = plus_product(alloc, &sum, &row[i], &numerators[i])?;
     }
     Ok(sum)
 }
@@ -45,27 +44,29 @@ fn sum_of_products(
 /// A number times the denominator of factors less the sum of the products of a row and their numerators.
 pub(crate) fn rest(
     alloc: Global,
-    own: i128,
-    row: &[i128],
+    own: &Integer,
+    row: &[Integer],
     factors: &Factors,
 ) -> Result<Integer, OutOfMemory>
     requires { length row.now ≡ length factors.now.numerators }
-    ensures { IfOk result (λ n. n ≡ (own *ℤ pos factors.now.denominator) +ℤ neg_ℤ (total row.now factors.now.numerators)) }
+    ensures { IfOk result (λ n. n ≡ (own.now *ℤ pos factors.now.denominator) +ℤ neg_ℤ (total row.now factors.now.numerators)) }
 {
-    let whole = Integer::new(alloc, own)?;
-    let times = whole.times(alloc, &factors.denominator);
-    drop(whole);
-    let times = times?;
+    let times = own.times(alloc, &factors.denominator)?;
     let sum = sum_of_products(alloc, row, factors.numerators.as_slice())?;
     let number = times.add(alloc, &sum.neg())?;
     Ok(number)
 }
 
 /// Whether a number is the sum of the products of a row and the factors.
-fn is_sum(alloc: Global, own: i128, row: &[i128], factors: &Factors) -> Result<bool, OutOfMemory>
+fn is_sum(
+    alloc: Global,
+    own: &Integer,
+    row: &[Integer],
+    factors: &Factors,
+) -> Result<bool, OutOfMemory>
     requires same { length row.now ≡ length factors.now.numerators }
     requires some { 1 ≤ factors.now.denominator }
-    ensures { IfOk result (λ b. IsTrue b → IsSumOf own row.now factors.now.numerators (pos factors.now.denominator)) }
+    ensures { IfOk result (λ b. IsTrue b → IsSumOf own.now row.now factors.now.numerators (pos factors.now.denominator)) }
 {
     let number = rest(alloc, own, row, factors)?;
     Ok(number.size().is_zero())
@@ -74,7 +75,7 @@ fn is_sum(alloc: Global, own: i128, row: &[i128], factors: &Factors) -> Result<b
 /// Whether the equation of a Gram row holds, save that of the column itself.
 fn holds_at(
     alloc: Global,
-    row: &[i128],
+    row: &[Integer],
     k: usize,
     column: usize,
     factors: &Factors,
@@ -87,7 +88,7 @@ fn holds_at(
     if k == column {
         return Ok(true);
     }
-    let holds = is_sum(alloc, row[column], row, factors)?;
+    let holds = is_sum(alloc, &row[column], row, factors)?;
     Ok(holds)
 }
 
@@ -95,7 +96,7 @@ fn holds_at(
 /// Gram matrix.
 pub fn are_factors(
     alloc: Global,
-    gram: &[List<i128>],
+    gram: &[List<Integer>],
     column: usize,
     factors: &Factors,
 ) -> Result<bool, OutOfMemory>

@@ -14,9 +14,9 @@ ghost use Rattle.rank_inversion.specs.Nexts.{IsFound, IsSpillHere, weighed_value
 
 use crate::station::Station;
 use frac_core::{Exact, List};
-use tableau_model::by_row;
 use loss_model::{Exchange, Quantity, Short, Site, Spill, over_at, plus_product, times_at};
 use rank_tableau::Finding;
+use tableau_model::by_row;
 
 impl<'a, F: Exact> Station<'a, F> {
     /// What is left at the basis, which the walk entered where the column weighed so much.

@@ -20,10 +20,10 @@ use crate::station::Station;
 use basic_solution::BasicSolution;
 use frac_core::{Exact, List, OutOfMemory};
 use fraction_tableau::{FractionTableau, duals_at};
-use tableau_model::{Breakpoint, ascending};
 use loss_model::{Basis, Beyond, Bound, End, Short, Vertex};
 use rank_tableau::{Finding, Next};
 use std::alloc::Global;
+use tableau_model::{Breakpoint, ascending};
 
 impl<'a, F: Exact> Station<'a, F> {
     /// The vertex of the basis.

@@ -16,10 +16,10 @@ use crate::course::Course;
 use basic_solution::BasicSolution;
 use frac_core::{Exact, List};
 use fraction_tableau::FractionTableau;
-use tableau_model::{Breakpoint, sooner};
 use loss_model::{Quantity, Site, Spill, minus_at, over_at};
 use pivot_model::Direction;
 use rank_steps::{Way, direction_of};
+use tableau_model::{Breakpoint, sooner};
 
 /// A basis on a walk, its basic solution, and its dual values at the quantile of the walk, by position.
 #[derive(Drop)]

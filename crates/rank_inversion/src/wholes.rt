@@ -17,6 +17,7 @@ use frac_core::{Exact, List};
 use gram_check::whole_gram;
 use loss_model::{Interval, Problem};
 use rank_tableau::{Arrival, BothSides, Question, both_sides};
+use ratio::Integer;
 use std::alloc::Global;
 use whole_tableau::Setting;
 
@@ -25,7 +26,7 @@ use whole_tableau::Setting;
 #[derive(Drop)]
 pub struct Started<'a, F: Exact> {
     pub reached: Reached<'a, F>,
-    pub gram: List<List<i128>>,
+    pub gram: List<List<Integer>>,
 }
 
 /// Solves at tau in whole numbers, and makes the Gram matrix.

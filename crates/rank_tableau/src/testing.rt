@@ -17,6 +17,7 @@ use crate::bound::square_bound;
 use crate::reach::Square;
 use frac_core::{Exact, List};
 use gram_check::{Factors, factor_values, factors_of, length_of};
+use ratio::Integer;
 use std::alloc::Global;
 use whole_inverse::Obstacle;
 use whole_rows::Factor;
@@ -33,7 +34,7 @@ pub struct ColumnTest<F> {
 /// The bound of the square, by what the factors leave of the column.
 fn reach_of<F: Exact>(
     alloc: Global,
-    gram: &[List<i128>],
+    gram: &[List<Integer>],
     column: usize,
     factors: &Factors,
     tau: F,
@@ -92,7 +93,7 @@ fn listed<F: Exact>(
 pub fn column_test<F: Exact>(
     alloc: Global,
     tableau: &WholeTableau<'_, F>,
-    gram: &[List<i128>],
+    gram: &[List<Integer>],
     column: u32,
     tau: F,
     crit: F,
