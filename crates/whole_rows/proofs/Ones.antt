@@ -1,5 +1,5 @@
 -- Factors that are 1.
-use Rattle.std.proofs.Common.{◌≡◌, pos, [], ◌∷◌, arith, refl, sym, ap, ap₂, ◌∙◌}
+use Rattle.std.proofs.Common.{◌≡◌, pos, [], ◌∷◌, arith, refl, sym, ap, ap₂, ◌∙◌, ℤ}
 use Rattle.std.proofs.lemmas.Int.{ints}
 use Rattle.rational_laws.specs.Fraction.{Fraction, rational}
 use Rattle.rational_laws.specs.Rational.{ℚ, ◌*ℚ◌, inverse, quotient, whole}
@@ -15,7 +15,7 @@ one_value v n d =
     let one : v.den ≡ 1 = omega (arith, ints, d) in
     ap₂ quotient n one ∙ quotient-one (pos 1)
 
-pub one_factor : (f : Factor) → f.over ≡ pos 1 → f.under ≡ pos 1 → factor_value f ≡ whole (pos 1)
+pub one_factor : (f : Factor ℤ) → f.over ≡ pos 1 → f.under ≡ pos 1 → factor_value f ≡ whole (pos 1)
 one_factor f n d = ap₂ (λ a b. whole a *ℚ inverse (whole b)) n d ∙ *ℚ-inverse (whole (pos 1)) one-zero
 
 pub times_one : (x f : ℚ) → f ≡ whole (pos 1) → x ≡ x *ℚ f

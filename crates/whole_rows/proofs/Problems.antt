@@ -1,5 +1,5 @@
 -- Rows in whole numbers are a scaled sample.
-use Rattle.std.specs.Prelude.{◌≡◌, ◌≢◌, ◌⊎◌, ℕ, ◌<◌, ◌≤◌, List, length, slice_get, All, Option, Some, None, pos}
+use Rattle.std.specs.Prelude.{◌≡◌, ◌≢◌, ◌⊎◌, ℕ, ℤ, ◌<◌, ◌≤◌, List, length, slice_get, All, Option, Some, None, pos}
 use Rattle.std.specs.Option.{option_map_or}
 use Rattle.std.proofs.Common.{refl, sym, ap, subst, ◌∙◌, get_or, inl, inr, arith}
 use Rattle.std.proofs.lemmas.Option.{slice_get_cases, get_or_from_slice_get}
@@ -18,21 +18,21 @@ use Rattle.whole_rows.specs.Wholes.{factor_value, factor_at, IsPositive, IsWhole
 use Rattle.whole_rows.proofs.WholeValues.{positive_share}
 use Rattle.whole_rows.proofs.Pairs.{paired_read}
 
-pub factor_positive : (f : Factor) → IsPositive f → ¬ (factor_value f ≤ℚ whole (pos 0))
+pub factor_positive : (f : Factor ℤ) → IsPositive f → ¬ (factor_value f ≤ℚ whole (pos 0))
 factor_positive f h = positive_share f.over f.under h.over h.under
 
-pub factor_some : (fs : List Factor) → All IsPositive fs → (k : ℕ) → k < length fs → factor_at fs k ≢ whole (pos 0)
+pub factor_some : (fs : List (Factor ℤ)) → All IsPositive fs → (k : ℕ) → k < length fs → factor_at fs k ≢ whole (pos 0)
 factor_some fs h k lk = by (slice_get_cases fs k).1
   where
-    by : (((f : Factor) × (k < length fs) × (slice_get fs k ≡ Some f) × (get_or fs k f ≡ f)) ⊎ ((length fs ≤ k) × (slice_get fs k ≡ None))) → factor_at fs k ≢ whole (pos 0)
+    by : (((f : Factor ℤ) × (k < length fs) × (slice_get fs k ≡ Some f) × (get_or fs k f ≡ f)) ⊎ ((length fs ≤ k) × (slice_get fs k ≡ None))) → factor_at fs k ≢ whole (pos 0)
     by (inl p) e =
         let there : IsPositive p.0 = subst IsPositive p.3 (h k p.0 lk) in
-        positive_nonzero (factor_value p.0) (factor_positive p.0 there) (sym (ap (λ (o : Option Factor). option_map_or factor_value o (whole (pos 1))) p.2) ∙ e)
+        positive_nonzero (factor_value p.0) (factor_positive p.0 there) (sym (ap (λ (o : Option (Factor ℤ)). option_map_or factor_value o (whole (pos 1))) p.2) ∙ e)
     by (inr p) e =
         let past : length fs ≤ k = p.0 in
         absurd (omega arith)
 
-module _ {F : Type 0} (value : F → Fraction) (p : Problem F) (fs : List Factor) (fy fc : Factor) (ws : List WholeRow) where
+module _ {F : Type 0} (value : F → Fraction) (p : Problem F) (fs : List (Factor ℤ)) (fy fc : Factor ℤ) (ws : List (WholeRow ℤ)) where
   pub scaled_from : IsWellShaped p → length ws ≡ length p.rows → ArePaired (IsWholeRow value fs fy fc) p.rows ws → IsScaled (sample value p) (sample_of_rows p.columns ws) (factor_at fs) (factor_value fy) (factor_value fc)
   scaled_from shaped size pairs =
       record {
@@ -56,11 +56,11 @@ module _ {F : Type 0} (value : F → Fraction) (p : Problem F) (fs : List Factor
   wide_from shaped size pairs i d li = by (slice_get_cases p.rows i).1 (slice_get_cases ws i).1
     where
       by : (((r : Row F) × (i < length p.rows) × (slice_get p.rows i ≡ Some r) × (get_or p.rows i r ≡ r)) ⊎ ((length p.rows ≤ i) × (slice_get p.rows i ≡ None)))
-          → (((w : WholeRow) × (i < length ws) × (slice_get ws i ≡ Some w) × (get_or ws i w ≡ w)) ⊎ ((length ws ≤ i) × (slice_get ws i ≡ None)))
+          → (((w : WholeRow ℤ) × (i < length ws) × (slice_get ws i ≡ Some w) × (get_or ws i w ≡ w)) ⊎ ((length ws ≤ i) × (slice_get ws i ≡ None)))
           → length (get_or ws i d).x ≡ p.columns
       by (inl r) (inl w) =
           let own : length r.0.x ≡ p.columns = subst (λ (r : Row F). length r.x ≡ p.columns) (get_or_from_slice_get p.rows i r.0 r.0 r.2) (shaped.entries i r.0 r.1) in
-          ap (λ (w : WholeRow). length w.x) (get_or_from_slice_get ws i w.0 d w.2) ∙ (pairs i r.0 w.0 r.2 w.2).size ∙ own
+          ap (λ (w : WholeRow ℤ). length w.x) (get_or_from_slice_get ws i w.0 d w.2) ∙ (pairs i r.0 w.0 r.2 w.2).size ∙ own
       by (inr r) w =
           let past : length p.rows ≤ i = r.0 in
           absurd (omega arith)

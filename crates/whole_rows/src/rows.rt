@@ -16,27 +16,27 @@ use whole_inverse::{Obstacle, room_for};
 
 /// A row in whole numbers.
 #[derive(Drop)]
-pub struct WholeRow {
-    pub x: List<i64>,
-    pub y: i64,
-    pub up0: i64,
-    pub up1: i64,
-    pub down0: i64,
-    pub down1: i64,
+pub struct WholeRow<N> {
+    pub x: List<N>,
+    pub y: N,
+    pub up0: N,
+    pub up1: N,
+    pub down0: N,
+    pub down1: N,
 }
 
 /// A problem in whole numbers, with the factors of its columns, its responses and its costs.
 #[derive(Drop)]
-pub struct WholeProblem {
+pub struct WholeProblem<N, M> {
     pub columns: u32,
-    pub rows: List<WholeRow>,
-    pub factors: List<Factor>,
-    pub response: Factor,
-    pub cost: Factor,
+    pub rows: List<WholeRow<N>>,
+    pub factors: List<Factor<M>>,
+    pub response: Factor<M>,
+    pub cost: Factor<M>,
 }
 
 /// A value times a factor.
-fn number<F: Exact>(v: F, factor: Factor) -> Result<i64, Obstacle>
+fn number<F: Exact>(v: F, factor: Factor<i128>) -> Result<i64, Obstacle>
     requires { IsPositive factor }
     ensures { IfOk result (λ r. whole r ≡ factor_value factor *ℚ rational (F.value v)) }
 {
@@ -50,7 +50,7 @@ fn number<F: Exact>(v: F, factor: Factor) -> Result<i64, Obstacle>
 fn whole_entries<F: Exact>(
     alloc: Global,
     x: &[F],
-    factors: &[Factor],
+    factors: &[Factor<i128>],
 ) -> Result<List<i64>, Obstacle>
     requires same { length factors.now ≡ length x.now }
     requires positive { All IsPositive factors.now }
@@ -71,10 +71,10 @@ fn whole_entries<F: Exact>(
 fn whole_row<F: Exact>(
     alloc: Global,
     row: &Row<F>,
-    factors: &[Factor],
-    response: Factor,
-    cost: Factor,
-) -> Result<WholeRow, Obstacle>
+    factors: &[Factor<i128>],
+    response: Factor<i128>,
+    cost: Factor<i128>,
+) -> Result<WholeRow<i64>, Obstacle>
     requires same { length factors.now ≡ length row.now.x }
     requires positive { All IsPositive factors.now }
     requires response { IsPositive response }
@@ -101,10 +101,10 @@ fn whole_row<F: Exact>(
 fn whole_rows<F: Exact>(
     alloc: Global,
     rows: &[Row<F>],
-    factors: &[Factor],
-    response: Factor,
-    cost: Factor,
-) -> Result<List<WholeRow>, Obstacle>
+    factors: &[Factor<i128>],
+    response: Factor<i128>,
+    cost: Factor<i128>,
+) -> Result<List<WholeRow<i64>>, Obstacle>
     requires same { All (λ r. length r.x ≡ length factors.now) rows.now }
     requires positive { All IsPositive factors.now }
     requires response { IsPositive response }
@@ -140,7 +140,7 @@ fn column_factors<F: Exact>(
     alloc: Global,
     rows: &[Row<F>],
     columns: u32,
-) -> Result<List<Factor>, Obstacle>
+) -> Result<List<Factor<i128>>, Obstacle>
     requires { All (λ r. length r.x ≡ columns) rows.now }
     ensures size { IfOk result (λ made. length made ≡ columns) }
     ensures positive { IfOk result (λ made. All IsPositive made) }
@@ -156,7 +156,7 @@ fn column_factors<F: Exact>(
 }
 
 /// The factor of the responses.
-fn response_factor<F: Exact>(alloc: Global, rows: &[Row<F>]) -> Result<Factor, Obstacle>
+fn response_factor<F: Exact>(alloc: Global, rows: &[Row<F>]) -> Result<Factor<i128>, Obstacle>
     ensures { IfOk result IsPositive }
 {
     let mut values = room_for(alloc, rows.len())?;
@@ -169,7 +169,7 @@ fn response_factor<F: Exact>(alloc: Global, rows: &[Row<F>]) -> Result<Factor, O
 }
 
 /// The factor of the costs, which is a common denominator.
-fn cost_factor<F: Exact>(rows: &[Row<F>]) -> Factor
+fn cost_factor<F: Exact>(rows: &[Row<F>]) -> Factor<i128>
     ensures { IsPositive result }
 {
     let mut found = Factor { over: 1, under: 1 };
@@ -187,7 +187,7 @@ fn cost_factor<F: Exact>(rows: &[Row<F>]) -> Factor
 pub fn whole_problem<F: Exact>(
     alloc: Global,
     problem: &Problem<F>,
-) -> Result<WholeProblem, Obstacle>
+) -> Result<WholeProblem<i64, i128>, Obstacle>
     requires shaped { IsWellShaped problem.now }
     ensures scaled { IfOk result (λ w. IsScaled (sample F.value problem.now) (whole_sample w) (factor_at w.factors) (factor_value w.response) (factor_value w.cost)) }
     ensures wide { IfOk result (λ w. All (λ r. length r.x ≡ problem.now.columns) w.rows) }

@@ -91,7 +91,7 @@ pub fn values_under<F: Exact>(
 }
 
 /// The factor of a column, which is 1 beyond the last.
-fn factor_of(factors: &[Factor], k: usize) -> Factor
+fn factor_of(factors: &[Factor<i128>], k: usize) -> Factor<i128>
     ensures { factor_value result ≡ factor_at factors.now k }
 {
     if k < factors.len() {
@@ -103,7 +103,7 @@ fn factor_of(factors: &[Factor], k: usize) -> Factor
 
 /// Whether a factor is 1.
 #[tactic(auto, using(crate::proofs::Ones::one_factor))]
-fn is_unit(factor: Factor) -> bool
+fn is_unit(factor: Factor<i128>) -> bool
     ensures { IsTrue result → factor_value factor ≡ whole (pos 1) }
 {
     factor.over == 1 && factor.under == 1
@@ -111,7 +111,7 @@ fn is_unit(factor: Factor) -> bool
 
 /// A value times a factor, which is mostly 1.
 #[tactic(auto, using(crate::proofs::Ones::times_one))]
-fn times<F: Exact>(value: F, factor: Factor) -> Result<F, Obstacle>
+fn times<F: Exact>(value: F, factor: Factor<i128>) -> Result<F, Obstacle>
     ensures { IfOk result (λ r. rational (F.value r) ≡ rational (F.value value) *ℚ factor_value factor) }
 {
     if is_unit(factor) {
@@ -128,7 +128,7 @@ fn times<F: Exact>(value: F, factor: Factor) -> Result<F, Obstacle>
 pub fn scaled<F: Exact>(
     alloc: Global,
     values: &[F],
-    factors: &[Factor],
+    factors: &[Factor<i128>],
 ) -> Result<List<F>, Obstacle>
     ensures size { IfOk result (λ made. length made ≡ length values.now) }
     ensures each { IfOk result (λ made. (k : ℕ) → k < length values.now → value_at F.value made k ≡ value_at F.value values.now k *ℚ factor_at factors.now k) }

@@ -1,6 +1,6 @@
 -- An entry more.
 use Rattle.std.proofs.Common.{rules, ◌≡◌, ℕ, List, ◌++◌, ◌∷◌, [], ◌<◌, length, get_or, arith, refl, sym, ap, ap₂, ◌∙◌, ◌+◌}
-use Rattle.std.specs.Prelude.{Option, pos}
+use Rattle.std.specs.Prelude.{ℤ, Option, pos}
 use Rattle.std.specs.Option.{option_map_or}
 use Rattle.std.proofs.lemmas.List.{length_push}
 use Rattle.std.proofs.lemmas.Option.{slice_get-get_or}
@@ -12,8 +12,8 @@ use Rattle.whole_rows.specs.declared.factor.Factor.{Factor}
 use Rattle.whole_rows.specs.Wholes.{factor_at, factor_value}
 use Rattle.whole_rows.proofs.rows.whole_entries.Goals as goal
 
-factor_read : (factors : List Factor) (k : ℕ) (d : Factor) → k < length factors → factor_value (get_or factors k d) ≡ factor_at factors k
-factor_read factors k d inside = sym (ap (λ (o : Option Factor). option_map_or factor_value o (whole (pos 1))) (slice_get-get_or factors k d inside))
+factor_read : (factors : List (Factor ℤ)) (k : ℕ) (d : Factor ℤ) → k < length factors → factor_value (get_or factors k d) ≡ factor_at factors k
+factor_read factors k d inside = sym (ap (λ (o : Option (Factor ℤ)). option_map_or factor_value o (whole (pos 1))) (slice_get-get_or factors k d inside))
 
 pub loop-k-preserved : goal.loop-k-preserved
 loop-k-preserved g c =

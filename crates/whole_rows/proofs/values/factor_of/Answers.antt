@@ -1,5 +1,5 @@
 -- Beyond the last factor.
-use Rattle.std.specs.Prelude.{Option}
+use Rattle.std.specs.Prelude.{ℤ, Option}
 use Rattle.std.specs.Option.{option_map_or}
 use Rattle.std.proofs.Common.{◌≤◌, length, pos, arith, sym, ap, ◌∙◌}
 use Rattle.std.proofs.lemmas.Option.{slice_get_past}
@@ -14,4 +14,4 @@ pub returns-else-k-factors : goal.returns-else-k-factors
 returns-else-k-factors c =
     let past : length c.args.factors.now ≤ c.args.k = omega (arith, c.if-k-factors.false) in
     *ℚ-inverse (whole (pos 1)) one-zero
-    ∙ sym (ap (λ (o : Option Factor). option_map_or factor_value o (whole (pos 1))) (slice_get_past c.args.factors.now c.args.k past))
+    ∙ sym (ap (λ (o : Option (Factor ℤ)). option_map_or factor_value o (whole (pos 1))) (slice_get_past c.args.factors.now c.args.k past))
