@@ -31,6 +31,7 @@ use Rattle.fraction_tableau.specs.declared.line.Line.{Line}
 use Rattle.fraction_tableau.specs.declared.line.Mover.{Mover}
 use Rattle.fraction_tableau.specs.Lines.{model, at_of, inverse_of, IsLine, IsOrderSpill, IsLineSpill, at_coordinates, at_ratio, at_tie, IsMover, AreMovers, AreMoversBelow, row_at, is_moving, side_is, coord_is}
 use Rattle.tableau_model.specs.Turns.{turned_by}
+use Rattle.tableau_model.proofs.Turns.{change_turned}
 use Rattle.fraction_tableau.specs.Descents.{IsDescent, IsDescentSpill}
 use Rattle.tableau_model.proofs.Lists.{get_front}
 use Rattle.fraction_tableau.proofs.Items.{row_read}

@@ -10,6 +10,7 @@ use Rattle.pivot_model.specs.declared.direction.Direction.{Direction}
 use Rattle.pivot_model.specs.Steps.{slope, HasNoNegativeSlope, IsLeaving}
 use Rattle.pivot_model.specs.Spills.{IsStepSpill}
 use Rattle.tableau_model.specs.declared.answer.Leaving.{Leaving}
+use Rattle.tableau_model.specs.Slopes.{IsLesser}
 use Rattle.fraction_tableau.specs.declared.slopes.Slopes.{Slopes}
 use Rattle.fraction_tableau.specs.Kept.{IsKept, place}
 use Rattle.tableau_model.specs.Standing.{AreDuals}
