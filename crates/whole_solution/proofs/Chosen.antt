@@ -1,7 +1,7 @@
 -- Sides of all rows beside the rows near the fit, and after a step that far rows are not looked at.
-use Rattle.std.specs.Prelude.{◌≡◌, ◌⊎◌, ℕ, ℤ, ◌<◌, ◌≤◌, ◌≤ℤ◌, Bool, true, false, List, All, length, pos}
+use Rattle.std.specs.Prelude.{◌≡◌, ◌⊎◌, ℕ, ℤ, ◌<◌, ◌≤◌, ◌≤ℤ◌, Bool, true, false, List, All, length, pos, slice_index}
 use Rattle.std.proofs.Common.{arith, refl, sym, ap, subst, ◌∙◌, inl, inr}
-use Rattle.rational_laws.specs.Rational.{ℚ, ◌+ℚ◌, ◌≤ℚ◌}
+use Rattle.rational_laws.specs.Rational.{ℚ, ◌+ℚ◌, ◌*ℚ◌, ◌≤ℚ◌}
 use Rattle.rational_laws.specs.Selections.{is_among}
 use Rattle.loss_model.specs.declared.vertex.Side.{Side}
 use Rattle.loss_model.specs.declared.vertex.Side.TheVariants.{Basic}
@@ -13,8 +13,8 @@ use Rattle.whole_solution.specs.declared.near.Near.{Near}
 use Rattle.whole_solution.specs.declared.ranges.Ranges.{Ranges}
 use Rattle.loss_model.specs.Sides.{side_in}
 use Rattle.whole_solution.specs.Far.{reaching, room, AreOthersFar, IsChosen, IsFarOn, IsListed, IsNear, IsNearOrFar}
-use Rattle.whole_solution.specs.Ranges.{AreRanges}
-use Rattle.whole_solution.proofs.Keeping.{keeps_on}
+use Rattle.whole_solution.specs.Ranges.{factor_at, AreRanges}
+use Rattle.whole_solution.proofs.Keeping.{keeps_far}
 use Rattle.whole_solution.proofs.Made.{basic_by}
 use Rattle.whole_solution.proofs.Same.{residual_same}
 
@@ -26,6 +26,11 @@ far_same near side far i r s e h = subst (λ r. IsNearOrFar near side far i r) e
 module _ (p : Sample) (side : ℕ → Side) (residuals coefs : List ℤ) (d : ℤ) (kept : Ranges) (n : Near) (chosen : IsChosen side residuals coefs d kept n)
     (rows : length residuals ≡ p.rows) (columns : length coefs ≡ p.columns) (positive : pos 1 ≤ℤ d) (ranges : AreRanges p kept)
     (are : (i : ℕ) → i < p.rows → share_at d residuals i ≡ residual p (share_at d coefs) i) where
+  own : (i : ℕ) → i < p.rows → IsNearOrFar n.rows (side i) (factor_at n.ranges.classes i *ℚ share (pos n.distance) d) i (share_at d residuals i)
+  own i li =
+      subst (λ (r : Ranges). IsNearOrFar n.rows (side i) (factor_at r.classes i *ℚ share (pos n.distance) d) i (share_at d residuals i)) (sym chosen.ranges)
+      (chosen.others i (omega (arith, li, rows)))
+
   pub near_from_chosen : IsNear p side n
   near_from_chosen =
       record {
@@ -34,16 +39,16 @@ module _ (p : Sample) (side : ℕ → Side) (residuals coefs : List ℤ) (d : �
         reach = subst (λ r. 1 ≤ r) (sym chosen.reach) chosen.some;
         rows = subst (λ m. All (λ i. i < m) n.rows) rows chosen.rows;
         ranges = subst (AreRanges p) (sym chosen.ranges) ranges;
-        others = subst (λ d. AreOthersFar p side n.rows (share (pos n.distance) d) (share_at d n.coef)) (sym chosen.determinant)
-            (subst (λ coefs. AreOthersFar p side n.rows (share (pos n.distance) d) (share_at d coefs)) (sym chosen.coef)
-            (λ i li. far_same n.rows (side i) (share (pos n.distance) d) i (share_at d residuals i) (residual p (share_at d coefs) i) (are i li) (chosen.others i (omega (arith, li, rows)))));
+        others = subst (λ d. AreOthersFar p side n (share (pos n.distance) d) (share_at d n.coef)) (sym chosen.determinant)
+            (subst (λ coefs. AreOthersFar p side n (share (pos n.distance) d) (share_at d coefs)) (sym chosen.coef)
+            (λ i li. far_same n.rows (side i) (factor_at n.ranges.classes i *ℚ share (pos n.distance) d) i (share_at d residuals i) (residual p (share_at d coefs) i) (are i li) (own i li)));
       }
 
-  pub far_from_chosen : (b : ℕ → ℚ) → ((k : ℕ) → k < p.columns → share_at d coefs k ≡ b k) → AreOthersFar p side n.rows (share (pos n.reach) n.determinant) b
+  pub far_from_chosen : (b : ℕ → ℚ) → ((k : ℕ) → k < p.columns → share_at d coefs k ≡ b k) → AreOthersFar p side n (share (pos n.reach) n.determinant) b
   far_from_chosen b same =
-      subst (λ d. AreOthersFar p side n.rows (share (pos n.reach) d) b) (sym chosen.determinant)
-      (subst (λ far. AreOthersFar p side n.rows (share (pos far) d) b) (sym chosen.reach)
-      (λ i li. far_same n.rows (side i) (share (pos n.distance) d) i (share_at d residuals i) (residual p b i) (are i li ∙ residual_same p (share_at d coefs) b same i) (chosen.others i (omega (arith, li, rows)))))
+      subst (λ d. AreOthersFar p side n (share (pos n.reach) d) b) (sym chosen.determinant)
+      (subst (λ far. AreOthersFar p side n (share (pos far) d) b) (sym chosen.reach)
+      (λ i li. far_same n.rows (side i) (factor_at n.ranges.classes i *ℚ share (pos n.distance) d) i (share_at d residuals i) (residual p b i) (are i li ∙ residual_same p (share_at d coefs) b same i) (own i li)))
 
 -- sides that are those of all rows outside the basis, with no row of this on one
 pub with_basis : (p : Sample) (at : ℕ → ℕ) (a : ℕ → ℕ → ℚ) (made : List Side) → ((i : ℕ) → i < p.rows → is_among at p.columns i ≡ false → side_in made i ≡ side_at p at a i)
@@ -70,12 +75,15 @@ module _ (p : Sample) (at : ℕ → ℕ) (a : ℕ → ℕ → ℚ) (d : ℤ) (co
   abbrev least : ℚ
   least = share (pos reach) n.determinant
 
+  abbrev factor : ℕ → ℚ
+  factor = factor_at n.ranges.classes
+
   -- a far row is still far
-  still_far : (i : ℕ) → i < p.rows → (side : Side) → IsFarOn side far (residual p before i) → IsFarOn side least (residual p (coefficient p at a) i)
+  still_far : (i : ℕ) → i < p.rows → (side : Side) → IsFarOn side (factor i *ℚ far) (residual p before i) → IsFarOn side (factor i *ℚ least) (residual p (coefficient p at a) i)
   still_far i li side away =
       let short = subst (λ m. (room m n.ranges before (share_at d coef) +ℚ least) ≤ℚ far) size left in
-      subst (λ r. IsFarOn side least r) (residual_same p (share_at d coef) (coefficient p at a) same i)
-      (keeps_on p n.ranges before (share_at d coef) i (is_near.ranges.each i li) far least short side away)
+      subst (λ r. IsFarOn side (factor i *ℚ least) r) (residual_same p (share_at d coef) (coefficient p at a) same i)
+      (keeps_far p n.ranges (slice_index n.ranges.classes i) before (share_at d coef) i (is_near.ranges.each i li) far least short side away)
 
   -- on the side that stands now, unless it is listed
   on_side : (i : ℕ) (r : ℚ) (bound : ℚ) → IsNearOrFar n.rows (side_in old i) bound i r → IsNearOrFar n.rows (side_in made i) bound i r
@@ -94,12 +102,12 @@ module _ (p : Sample) (at : ℕ → ℕ) (a : ℕ → ℕ → ℚ) (d : ℤ) (co
         reach = some;
         rows = is_near.rows;
         ranges = is_near.ranges;
-        others = λ i li. on_side i (residual p before i) far (is_near.others i li);
+        others = λ i li. on_side i (residual p before i) (factor i *ℚ far) (is_near.others i li);
       }
 
-  pub far_now : AreOthersFar p (side_in made) n.rows least (coefficient p at a)
-  far_now i li = on_side i (residual p (coefficient p at a) i) least (by (is_near.others i li))
+  pub far_now : AreOthersFar p (side_in made) n least (coefficient p at a)
+  far_now i li = on_side i (residual p (coefficient p at a) i) (factor i *ℚ least) (by (is_near.others i li))
     where
-      by : IsNearOrFar n.rows (side_in old i) far i (residual p before i) → IsNearOrFar n.rows (side_in old i) least i (residual p (coefficient p at a) i)
+      by : IsNearOrFar n.rows (side_in old i) (factor i *ℚ far) i (residual p before i) → IsNearOrFar n.rows (side_in old i) (factor i *ℚ least) i (residual p (coefficient p at a) i)
       by (inl listed) = inl listed
       by (inr away) = inr (still_far i li (side_in old i) away)

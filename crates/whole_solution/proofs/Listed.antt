@@ -33,21 +33,21 @@ near_more rows x side far i r (inl h) = inl (listed_more rows x i h)
 near_more rows x side far i r (inr h) = inr h
 
 -- a row more, that is listed
-pub near_next : (rows : List ℕ) (n : ℕ) (side : ℕ → Side) (far : ℚ) (r : ℕ → ℚ) → ((i : ℕ) → i < n → IsNearOrFar rows (side i) far i (r i)) → (i : ℕ) → i < n + 1 → IsNearOrFar (rows ++ n ∷ []) (side i) far i (r i)
+pub near_next : (rows : List ℕ) (n : ℕ) (side : ℕ → Side) (far r : ℕ → ℚ) → ((i : ℕ) → i < n → IsNearOrFar rows (side i) (far i) i (r i)) → (i : ℕ) → i < n + 1 → IsNearOrFar (rows ++ n ∷ []) (side i) (far i) i (r i)
 near_next rows n side far r h i l = by (i == n) refl
   where
-    by : (t : Bool) → (i == n) ≡ t → IsNearOrFar (rows ++ n ∷ []) (side i) far i (r i)
+    by : (t : Bool) → (i == n) ≡ t → IsNearOrFar (rows ++ n ∷ []) (side i) (far i) i (r i)
     by true e = inl (subst (λ i. IsListed (rows ++ n ∷ []) i) (sym (eqb-true i n e)) (listed_last rows n))
     by false e =
         let other : i ≢ n = eqb-false i n e in
-        near_more rows n (side i) far i (r i) (h i (omega (arith, l, other)))
+        near_more rows n (side i) (far i) i (r i) (h i (omega (arith, l, other)))
 
 -- or that is far
-pub far_next : (rows : List ℕ) (n : ℕ) (side : ℕ → Side) (far : ℚ) (r : ℕ → ℚ) → ((i : ℕ) → i < n → IsNearOrFar rows (side i) far i (r i)) → IsFarOn (side n) far (r n) → (i : ℕ) → i < n + 1 → IsNearOrFar rows (side i) far i (r i)
+pub far_next : (rows : List ℕ) (n : ℕ) (side : ℕ → Side) (far r : ℕ → ℚ) → ((i : ℕ) → i < n → IsNearOrFar rows (side i) (far i) i (r i)) → IsFarOn (side n) (far n) (r n) → (i : ℕ) → i < n + 1 → IsNearOrFar rows (side i) (far i) i (r i)
 far_next rows n side far r h away i l = by (i == n) refl
   where
-    by : (t : Bool) → (i == n) ≡ t → IsNearOrFar rows (side i) far i (r i)
-    by true e = inr (subst (λ i. IsFarOn (side i) far (r i)) (sym (eqb-true i n e)) away)
+    by : (t : Bool) → (i == n) ≡ t → IsNearOrFar rows (side i) (far i) i (r i)
+    by true e = inr (subst (λ i. IsFarOn (side i) (far i) (r i)) (sym (eqb-true i n e)) away)
     by false e =
         let other : i ≢ n = eqb-false i n e in
         h i (omega (arith, l, other))

@@ -3,19 +3,20 @@ use Rattle.std.specs.Prelude.{◌≡◌, ◌⊎◌, ℕ, ℤ, ◌+◌, ◌*◌, 
 use Rattle.std.proofs.Common.{refl, sym, ap, ap₂, subst, ◌∙◌, inl, inr}
 use Rattle.rational_laws.specs.Solver.{number, negated, ◌⊞◌, ◌⊟◌, ◌⊠◌, v0, v1, v2}
 use Rattle.rational_laws.specs.Rational.{ℚ, ◌+ℚ◌, ◌-ℚ◌, ◌*ℚ◌, neg_ℚ, whole, ◌≤ℚ◌}
-use Rattle.rational_laws.proofs.RationalLaws.{ring_ℚ, ≤ℚ_refl, ≤ℚ_mul, whole-add, whole-mul}
+use Rattle.rational_laws.proofs.RationalLaws.{ring_ℚ, ≤ℚ_mul, whole-add, whole-mul}
 use Rattle.rational_laws.specs.RationalSums.{sum_ℚ}
 use Rattle.rational_laws.proofs.RationalSumLaws.{sum_ℚ-add, sum_ℚ-le, sum_ℚ-next, sum_ℚ-same, sum_ℚ-scale}
 use Rattle.loss_model.specs.Spill.{abs_ℚ}
+use Rattle.basis_model.proofs.Ratios.{abs_not_negative}
 use Rattle.pivot_model.proofs.Entering.{abs_above, abs_below}
 use Rattle.walk_model.proofs.Lines.{decide}
 use Rattle.rational_laws.specs.WholeLists.{whole_at}
 use Rattle.whole_solution.specs.declared.ranges.Ranges.{Ranges}
 use Rattle.whole_solution.specs.Ranges.{at_halves, at_middles, half_at, most_of_products, AreInRanges, ProductsStayInRange}
 use Rattle.whole_solution.proofs.Numbers.{whole_read}
-use Rattle.whole_solution.proofs.Sizes.{abs_whole, not_above, product_above, product_below, size_by, sum_within}
+use Rattle.whole_solution.proofs.Sizes.{abs_whole, not_above, product_above, product_below, scaled_up, size_by, sum_within}
 
-module _ (n : ℕ) (r : Ranges) (x v : ℕ → ℚ) (within : AreInRanges n r x) where
+module _ (n : ℕ) (r : Ranges) (f : ℚ) (x v : ℕ → ℚ) (some : whole (pos 1) ≤ℚ f) (within : AreInRanges n r f x) where
   abbrev rest : ℕ → ℚ
   rest k = (x k -ℚ whole_at r.middles k) *ℚ v k
 
@@ -25,23 +26,43 @@ module _ (n : ℕ) (r : Ranges) (x v : ℕ → ℚ) (within : AreInRanges n r x)
       (λ k lk. ring_ℚ (x k ∷ whole_at r.middles k ∷ v k ∷ []) (v0 ⊠ v2) ((v0 ⊟ v1) ⊠ v2 ⊞ v1 ⊠ v2) refl)
       ∙ sum_ℚ-add n rest (λ k. whole_at r.middles k *ℚ v k)
 
-  rest_above : sum_ℚ n rest ≤ℚ at_halves n r v
+  -- half a width more
+  own : (k : ℕ) → (f *ℚ half_at r.halves k) *ℚ abs_ℚ (v k) ≡ f *ℚ (half_at r.halves k *ℚ abs_ℚ (v k))
+  own k = ring_ℚ (f ∷ half_at r.halves k ∷ abs_ℚ (v k) ∷ []) ((v0 ⊠ v1) ⊠ v2) (v0 ⊠ (v1 ⊠ v2)) refl
+
+  abbrev wide : ℕ → ℚ
+  wide k = f *ℚ (half_at r.halves k *ℚ abs_ℚ (v k))
+
+  rest_above : sum_ℚ n rest ≤ℚ (f *ℚ at_halves n r v)
   rest_above =
-      sum_ℚ-le n rest (λ k. half_at r.halves k *ℚ abs_ℚ (v k))
-      (λ k lk. product_below (x k -ℚ whole_at r.middles k) (v k) (half_at r.halves k) (within k lk))
+      subst (λ z. sum_ℚ n rest ≤ℚ z) (sum_ℚ-scale n f (λ k. half_at r.halves k *ℚ abs_ℚ (v k)))
+      (sum_ℚ-le n rest wide
+      (λ k lk. subst (λ z. rest k ≤ℚ z) (own k) (product_below (x k -ℚ whole_at r.middles k) (v k) (f *ℚ half_at r.halves k) (within k lk))))
 
-  rest_below : neg_ℚ (sum_ℚ n rest) ≤ℚ at_halves n r v
+  rest_below : neg_ℚ (sum_ℚ n rest) ≤ℚ (f *ℚ at_halves n r v)
   rest_below =
-      subst (λ z. z ≤ℚ at_halves n r v)
+      subst (λ z. z ≤ℚ (f *ℚ at_halves n r v))
       (sum_ℚ-scale n (neg_ℚ (whole (pos 1))) rest ∙ ring_ℚ (sum_ℚ n rest ∷ []) (negated (number (pos 1)) ⊠ v0) (negated v0) refl)
-      (sum_ℚ-le n (λ k. neg_ℚ (whole (pos 1)) *ℚ rest k) (λ k. half_at r.halves k *ℚ abs_ℚ (v k))
-      (λ k lk. product_above (x k -ℚ whole_at r.middles k) (v k) (half_at r.halves k) (within k lk)))
+      (subst (λ z. sum_ℚ n (λ k. neg_ℚ (whole (pos 1)) *ℚ rest k) ≤ℚ z) (sum_ℚ-scale n f (λ k. half_at r.halves k *ℚ abs_ℚ (v k)))
+      (sum_ℚ-le n (λ k. neg_ℚ (whole (pos 1)) *ℚ rest k) wide
+      (λ k lk. subst (λ z. (neg_ℚ (whole (pos 1)) *ℚ rest k) ≤ℚ z) (own k) (product_above (x k -ℚ whole_at r.middles k) (v k) (f *ℚ half_at r.halves k) (within k lk)))))
 
-  in_range : abs_ℚ (sum_ℚ n (λ k. x k *ℚ v k)) ≤ℚ most_of_products n r v
+  -- the middles stand for all rows, and so need no factor
+  abbrev middle : ℚ
+  middle = abs_ℚ (at_middles n r v)
+
+  middle_below : middle ≤ℚ (f *ℚ middle)
+  middle_below =
+      subst (λ z. z ≤ℚ (f *ℚ middle)) (ring_ℚ (middle ∷ []) (number (pos 1) ⊠ v0) v0 refl)
+      (scaled_up (whole (pos 1)) f middle some (abs_not_negative (at_middles n r v)))
+
+  in_range : abs_ℚ (sum_ℚ n (λ k. x k *ℚ v k)) ≤ℚ (f *ℚ most_of_products n r v)
   in_range =
-      subst (λ z. abs_ℚ z ≤ℚ most_of_products n r v) (sym split)
-      (sum_within (sum_ℚ n rest) (at_middles n r v) (at_halves n r v) (abs_ℚ (at_middles n r v))
-      (size_by (sum_ℚ n rest) (λ s. s ≤ℚ at_halves n r v) rest_above rest_below) (≤ℚ_refl (abs_ℚ (at_middles n r v))))
+      subst (λ z. abs_ℚ z ≤ℚ (f *ℚ most_of_products n r v)) (sym split)
+      (subst (λ z. abs_ℚ (sum_ℚ n rest +ℚ at_middles n r v) ≤ℚ z)
+      (ring_ℚ (f ∷ at_halves n r v ∷ middle ∷ []) (v0 ⊠ v1 ⊞ v0 ⊠ v2) (v0 ⊠ (v1 ⊞ v2)) refl)
+      (sum_within (sum_ℚ n rest) (at_middles n r v) (f *ℚ at_halves n r v) (f *ℚ middle)
+      (size_by (sum_ℚ n rest) (λ s. s ≤ℚ (f *ℚ at_halves n r v)) rest_above rest_below) middle_below))
 
 pub products_stay_in_range : ProductsStayInRange
 products_stay_in_range = in_range

@@ -53,7 +53,7 @@ pub record AreResiduals (p : Sample) (at : ℕ → ℕ) (a : ℕ → ℕ → ℚ
 -- rows that aren't near are far on these sides, and the numerators over d, where they stand there, are those of the residuals of all rows
 pub record IsNearby (p : Sample) (at : ℕ → ℕ) (a : ℕ → ℕ → ℚ) (d : ℤ) (side : ℕ → Side) (n : Nearby) : Type 0 where
   pub near : IsNear p side n.near
-  pub far : AreOthersFar p side n.near.rows (share (pos n.near.reach) n.near.determinant) (coefficient p at a)
+  pub far : AreOthersFar p side n.near (share (pos n.near.reach) n.near.determinant) (coefficient p at a)
   pub residuals : IfSome n.residuals (AreResiduals p at a d)
 
 -- the numerators over d are those of the coefficients, and of the residuals where these stand there, the sides are those of the
@@ -64,7 +64,7 @@ pub record IsSided (p : Sample) (at : ℕ → ℕ) (a : ℕ → ℕ → ℚ) (d 
   pub all_sides : length s.sides ≡ p.rows
   pub sides : (i : ℕ) → i < p.rows → side_in s.sides i ≡ side_at p at a i
   pub near : IsNear p (side_in s.sides) s.near
-  pub far : AreOthersFar p (side_in s.sides) s.near.rows (share (pos s.near.reach) s.near.determinant) (coefficient p at a)
+  pub far : AreOthersFar p (side_in s.sides) s.near (share (pos s.near.reach) s.near.determinant) (coefficient p at a)
   pub weights : AreWeights p (side_in s.sides) s.weights
   pub residuals : IfSome s.residuals (AreResiduals p at a d)
 
@@ -82,7 +82,7 @@ pub record IsWholeSolution (p : Sample) (at : ℕ → ℕ) (a : ℕ → ℕ → 
   pub all_sides : length s.sides ≡ p.rows
   pub sides : (i : ℕ) → i < p.rows → side_in s.sides i ≡ side_at p at a i
   pub near : IsNear p (side_in s.sides) s.near
-  pub far : AreOthersFar p (side_in s.sides) s.near.rows (share (pos s.near.reach) s.near.determinant) (coefficient p at a)
+  pub far : AreOthersFar p (side_in s.sides) s.near (share (pos s.near.reach) s.near.determinant) (coefficient p at a)
   pub weights : AreWeights p (side_in s.sides) s.weights
   pub residuals : IfSome s.residuals (AreResiduals p at a d)
   pub constants : length s.constant ≡ p.columns

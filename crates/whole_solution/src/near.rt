@@ -1,15 +1,17 @@
 //! Rows near an earlier fit, and how long all others are sure to keep their sides.
 //!
-//! A row is far where its residual at the earlier fit is at least a distance. How far any residual can have moved since is bounded by
-//! the coefficients, of all rows at once. While that is less than the distance, far rows keep their sides and have residuals of at least
-//! what is left of it, the reach, so that only near rows are looked at.
-ghost use Rattle.std.specs.Prelude.{◌≡◌, ℕ, ℤ, ◌*◌, ◌<◌, ◌≤◌, ◌^◌, ◌≤ℤ◌, All, length, IfOk, IfSome, IsTrue, pos};
-ghost use Rattle.rational_laws.specs.Rational.{◌+ℚ◌, ◌≤ℚ◌, whole};
+//! A row is far where its residual at the earlier fit is at least a distance, times 2 to the power of the row's class. How far any
+//! residual can have moved since, over the same power, is bounded by the coefficients, of all rows at once. While that is less than the
+//! distance, far rows keep their sides and have residuals of at least what is left of it, the reach, times that power, so that only near
+//! rows are looked at.
+ghost use Rattle.std.specs.Prelude.{◌≡◌, ℕ, ℤ, ◌*◌, ◌<◌, ◌≤◌, ◌^◌, ◌≤ℤ◌, All, length, unsigned_abs, IfOk, IfSome, IsTrue, pos};
+ghost use Rattle.rational_laws.specs.Rational.{◌+ℚ◌, ◌*ℚ◌, ◌≤ℚ◌, whole};
 ghost use Rattle.loss_model.specs.declared.vertex.Side.TheVariants.{Up, Down};
 ghost use Rattle.wide_int.specs.Numbers.{joined, number_of};
 ghost use Rattle.whole_inverse.specs.Shares.{share, share_at};
 ghost use Rattle.loss_model.specs.Sides.{side_in};
 ghost use Rattle.whole_solution.specs.Far.{move_of, moves, reaching, room, IsChosen, IsFarOn, IsListed, IsNearOrFar};
+ghost use Rattle.whole_solution.specs.Ranges.{factor_at, power};
 
 use crate::ranges::Ranges;
 use crate::sides::is_held;
@@ -21,7 +23,8 @@ use whole_inverse::{Obstacle, room_for};
 use wide_int::{Natural, Wide};
 
 /// The rows near an earlier fit, whose coefficients stand over its determinant, as do the distance and the reach: the residuals of all
-/// other rows were at least the distance there, and are at least the reach now. The entries of each column are within its range.
+/// other rows were at least the distance there, and are at least the reach now, both times 2 to the power of the row's class. The entries
+/// of each row are within the ranges of the columns, times that power.
 #[derive(Drop)]
 pub struct Near {
     pub rows: List<u32>,
@@ -52,32 +55,49 @@ fn is_below(side: Side, residual: i128) -> bool
     }
 }
 
-/// Whether a residual is at least `far` on a side. All answers stand before they are joined: nothing foretells the side, and a branch
-/// would often be taken back.
-fn is_far_on(side: Side, residual: i128, far: u128) -> bool
-    ensures { IsTrue result → (d : ℤ) → pos 1 ≤ℤ d → IsFarOn side (share (pos far) d) (share residual d) }
+/// The size of a number over 2 to the power of a class, without what is left.
+fn size_over(number: i128, class: u8) -> u128
+    ensures { result * 2 ^ class ≤ unsigned_abs number }
+{
+    let size = number.unsigned_abs();
+    if class == 0 {
+        return size;
+    }
+    match size.checked_shr(u32::from(class)) {
+        Some(over) => over,
+        None => 0,
+    }
+}
+
+/// Whether a residual is at least `far`, times 2 to the power of a class, on a side. All answers stand before they are joined: nothing
+/// foretells the side, and a branch would often be taken back.
+fn is_far_on(side: Side, residual: i128, class: u8, far: u128) -> bool
+    ensures { IsTrue result → (d : ℤ) → pos 1 ≤ℤ d → IsFarOn side (power class *ℚ share (pos far) d) (share residual d) }
 {
     let above = is_above(side, residual);
     let below = is_below(side, residual);
-    let is_long = residual.unsigned_abs() >= far;
+    let is_long = size_over(residual, class) >= far;
     is_long & (above | below)
 }
 
-/// The rows whose residual isn't at least `far` on their side.
+/// The rows whose residual isn't at least `far`, times 2 to the power of their class, on their side.
 fn near_rows(
     alloc: Global,
     residuals: &[i128],
     sides: &[Side],
+    classes: &[u8],
     far: u128,
 ) -> Result<List<u32>, Obstacle>
     requires same { length sides.now ≡ length residuals.now }
+    requires classes { length classes.now ≡ length residuals.now }
     requires few { length residuals.now < 2 ^ 32 }
     ensures within { IfOk result (λ near. All (λ i. i < length residuals.now) near) }
-    ensures others { IfOk result (λ near. (d : ℤ) → pos 1 ≤ℤ d → (i : ℕ) → i < length residuals.now → IsNearOrFar near (side_in sides.now i) (share (pos far) d) i (share_at d residuals.now i)) }
+    ensures others { IfOk result (λ near. (d : ℤ) → pos 1 ≤ℤ d → (i : ℕ) → i < length residuals.now → IsNearOrFar near (side_in sides.now i) (factor_at classes.now i *ℚ share (pos far) d) i (share_at d residuals.now i)) }
 {
     let mut near = room_for(alloc, 128)?;
     for row in 0..residuals.len() as u32 {
-        if !is_far_on(sides[row as usize], residuals[row as usize], far) {
+        let class = classes[row as usize];
+        if !is_far_on(sides[row as usize], residuals[row as usize], class, far) {
             near.add(row)?;
         }
     }
@@ -102,17 +122,23 @@ fn stride_of(residuals: usize) -> usize
     (residuals / SAMPLE).max(1)
 }
 
-/// The sizes of every so many residuals.
-fn sizes_of(alloc: Global, residuals: &[i128], stride: usize) -> Result<List<u128>, Obstacle>
+/// The sizes of every so many residuals, over 2 to the power of the class of each.
+fn sizes_of(
+    alloc: Global,
+    residuals: &[i128],
+    classes: &[u8],
+    stride: usize,
+) -> Result<List<u128>, Obstacle>
     requires { 1 ≤ stride }
 {
-    let mut sizes = room_for(alloc, residuals.len() / stride + 1)?;
+    let end = residuals.len().min(classes.len());
+    let mut sizes = room_for(alloc, end / stride + 1)?;
     let mut next: usize = 0;
-    for _ in 0..residuals.len() {
-        if next >= residuals.len() {
+    for _ in 0..end {
+        if next >= end {
             return Ok(sizes);
         }
-        sizes.add(residuals[next].unsigned_abs())?;
+        sizes.add(size_over(residuals[next], classes[next]))?;
         next = next.saturating_add(stride);
     }
     Ok(sizes)
@@ -195,12 +221,13 @@ fn times_in(number: Natural, divisor: u128) -> u128 {
 pub(crate) fn walking_distance(
     alloc: Global,
     residuals: &[i128],
-    columns: usize,
+    ranges: &Ranges,
 ) -> Result<u128, Obstacle>
     ensures { IfOk result (λ distance. 1 ≤ distance) }
 {
     let stride = stride_of(residuals.len());
-    let sizes = sizes_of(alloc, residuals, stride)?;
+    let sizes = sizes_of(alloc, residuals, ranges.classes.as_slice(), stride)?;
+    let columns = ranges.middles.as_slice().len();
     let few = near_count(residuals.len(), columns) / stride as u64;
     Ok(distance_of(sizes.as_slice(), few))
 }
@@ -220,7 +247,7 @@ fn passed_rows(old: &[Side], new: &[Side]) -> usize {
 pub(crate) fn solving_distance(
     alloc: Global,
     residuals: &[i128],
-    columns: usize,
+    ranges: &Ranges,
     old: &[Side],
     new: &[Side],
 ) -> Result<u128, Obstacle>
@@ -229,7 +256,7 @@ pub(crate) fn solving_distance(
     if passed_rows(old, new) > residuals.len() / 64 {
         return Ok(1);
     }
-    let distance = walking_distance(alloc, residuals, columns)?;
+    let distance = walking_distance(alloc, residuals, ranges)?;
     Ok(distance)
 }
 
@@ -251,12 +278,14 @@ impl Near {
         choice: Choice,
     ) -> Result<Near, Obstacle>
         requires same { length sides.now ≡ length residuals.now }
+        requires classes { length choice.ranges.classes ≡ length residuals.now }
         requires few { length residuals.now < 2 ^ 32 }
         requires some { pos 1 ≤ℤ determinant }
         requires distance { 1 ≤ choice.distance }
         ensures { IfOk result (IsChosen (side_in sides.now) residuals.now coef.now determinant choice.ranges) }
     {
-        let rows = near_rows(alloc, residuals, sides, choice.distance)?;
+        let classes = choice.ranges.classes.as_slice();
+        let rows = near_rows(alloc, residuals, sides, classes, choice.distance)?;
         let coef = List::copy(alloc, coef)?;
         Ok(Near {
             rows,

@@ -212,7 +212,7 @@ impl<'a> WholeBasis<'a> {
         let distance = solving_distance(
             alloc,
             residuals.as_slice(),
-            coef.as_slice().len(),
+            &ranges,
             old,
             sides.as_slice(),
         )?;
@@ -356,7 +356,7 @@ impl<'a> WholeBasis<'a> {
         }
         let residuals = self.residuals(alloc, coef)?;
         let choice = Choice {
-            distance: walking_distance(alloc, residuals.as_slice(), coef.len())?,
+            distance: walking_distance(alloc, residuals.as_slice(), &before.near.ranges)?,
             ranges: before.near.ranges.copy(alloc)?,
         };
         self.choose_near(alloc, residuals, coef, sides, choice)

@@ -1,13 +1,14 @@
 -- Rows that are far come after a mover whose ratio is small enough.
-use Rattle.std.specs.Prelude.{◌≡◌, ◌≢◌, ℕ, suc, ℤ, ◌*◌, ◌<◌, ◌≤◌, true, unsigned_abs, List, [], ◌∷◌, length, get_or, slice_get, slice_index, Some, pos}
+use Rattle.std.specs.Prelude.{◌≡◌, ◌≢◌, ℕ, suc, ℤ, ◌*◌, ◌^◌, ◌<◌, ◌≤◌, true, unsigned_abs, List, [], ◌∷◌, length, get_or, slice_get, slice_index, Some, pos}
 use Rattle.std.specs.Ordering.{is_lt}
 use Rattle.std.proofs.Common.{arith, refl, sym, ap, ap₂, subst, ◌∙◌, inl, inr}
 use Rattle.std.proofs.lemmas.Int.{ints}
+use Rattle.std.proofs.lemmas.Nat.{pow_pos}
 use Rattle.rational_laws.specs.Solver.{number, ◌⊠◌, v0, v1, v2, v3, v4}
 use Rattle.rational_laws.specs.Rational.{ℚ, ◌*ℚ◌, inverse, whole, ◌≤ℚ◌}
 use Rattle.rational_laws.specs.RationalSums.{sum_ℚ}
 use Rattle.rational_laws.proofs.RationalLaws.{ring_ℚ, ring_by_ℚ, whole-mul, *ℚ-inverse, ≤ℚ_refl, ≤ℚ_trans, ≤ℚ_mul}
-use Rattle.rational_laws.proofs.OrderLaws.{cmp_ℚ-Less}
+use Rattle.rational_laws.proofs.OrderLaws.{cmp_ℚ-Less, ≤ℚ-from_mul}
 use Rattle.rational_laws.proofs.WholeNumbers.{le_from_whole, whole-le}
 use Rattle.loss_model.specs.declared.vertex.Side.{Side}
 use Rattle.loss_model.specs.declared.vertex.Side.TheVariants.{Up, Down, Basic}
@@ -22,7 +23,7 @@ use Rattle.whole_inverse.specs.Shares.{share, share_at}
 use Rattle.whole_inverse.specs.Squares.{WholeSquare}
 use Rattle.walk_model.specs.Walks.{IsFirstMover}
 use Rattle.whole_solution.specs.Far.{IsFarOn, IsNearOrFar}
-use Rattle.whole_solution.specs.Ranges.{most_of_products}
+use Rattle.whole_solution.specs.Ranges.{factor_at, most_of_products, power}
 use Rattle.loss_model.specs.Sides.{side_in}
 use Rattle.loss_model.proofs.Quotients.{whole_some}
 use Rattle.whole_steps.specs.declared.line.Line.{Line}
@@ -34,6 +35,8 @@ use Rattle.whole_steps.proofs.Coordinates.{column_size, coordinates_by}
 use Rattle.whole_steps.proofs.FirstLaws.{first_of_all}
 use Rattle.whole_steps.proofs.Movers.{turned-times}
 use Rattle.whole_steps.proofs.Signs.{share_not_below}
+use Rattle.whole_solution.proofs.Keeping.{power_some}
+use Rattle.whole_solution.proofs.Numbers.{above}
 use Rattle.whole_solution.proofs.Within.{products_stay_in_range}
 use Rattle.whole_solution.proofs.Sizes.{none_from, scaled_up}
 use Rattle.whole_steps.proofs.Ties.{moving_coord}
@@ -73,6 +76,9 @@ apart r m e reach c d he hc hd less l =
 
 -- ---- a far row
 
+power_above : (class : ℕ) → ¬ (power class ≤ℚ whole (pos 0))
+power_above class = let some = pow_pos class in above (pos (2 ^ class)) (omega (arith, ints, some))
+
 far_turned : (s : Side) (far r : ℚ) → IsFarOn s far r → far ≤ℚ turned s r
 far_turned Up far r h = h
 far_turned Down far r h = h
@@ -107,9 +113,9 @@ module _ (l : Line) (line : IsLine l) where
   side_moving i h = side_outside (model l) (at_of l) (inverse_at l) i (mover_outside (model l) (at_of l) (inverse_at l) l.position l.direction i h)
 
   module _ (m : Mover) (h : IsMover l m) (reach e most : ℕ) (he : 1 ≤ e) (d : ℕ) (over : over_of l ≡ pos d) (less : m.residual * most * e < reach * m.coord * d) where
-    later_by : (i : ℕ) → i < length l.basis.now.rows.now → abs_ℚ (coord (model l) (inverse_at l) i l.position) ≤ℚ share (pos most) (over_of l)
-        → IsFarOn (side_in l.sides.now i) (share (pos reach) (pos e)) (residual_of l i) → is_moving l i ≡ true → comes_before l m.row i ≡ true
-    later_by i li small far moving = first_less m i h greater
+    later_by : (i class : ℕ) → i < length l.basis.now.rows.now → abs_ℚ (coord (model l) (inverse_at l) i l.position) ≤ℚ (power class *ℚ share (pos most) (over_of l))
+        → IsFarOn (side_in l.sides.now i) (power class *ℚ share (pos reach) (pos e)) (residual_of l i) → is_moving l i ≡ true → comes_before l m.row i ≡ true
+    later_by i class li small far moving = first_less m i h greater
       where
         some : 1 ≤ d
         some = let p = line.held.shape.positive in omega (arith, ints, over, p)
@@ -117,19 +123,26 @@ module _ (l : Line) (line : IsLine l) where
         up : whole (pos 0) ≤ℚ ratio_of l m.row 0
         up = subst (λ z. whole (pos 0) ≤ℚ z) h.ratio_is (share_not_below (pos m.residual) (pos m.coord) (let s = h.some in omega (arith, ints, s)) (omega (arith, ints)))
 
-        on_side : share (pos reach) (pos e) ≤ℚ turned (perturbed_side (model l).rows (model l).columns (at_of l) (outside_row (model l) (at_of l) (inverse_at l) i)) (residual_of l i)
-        on_side = subst (λ s. share (pos reach) (pos e) ≤ℚ turned s (residual_of l i)) (line.sides i li ∙ side_moving i moving) (far_turned (side_in l.sides.now i) (share (pos reach) (pos e)) (residual_of l i) far)
+        -- the reach, times the factor of the row
+        bound : ℚ
+        bound = power class *ℚ share (pos reach) (pos e)
+
+        on_side : bound ≤ℚ turned (perturbed_side (model l).rows (model l).columns (at_of l) (outside_row (model l) (at_of l) (inverse_at l) i)) (residual_of l i)
+        on_side = subst (λ s. bound ≤ℚ turned s (residual_of l i)) (line.sides i li ∙ side_moving i moving) (far_turned (side_in l.sides.now i) bound (residual_of l i) far)
 
         greater : ¬ (ratio_of l i 0 ≤ℚ ratio_of l m.row 0)
         greater back =
             apart m.residual most e reach m.coord d he h.some some less
             (subst (λ z. share (pos reach) (pos e) ≤ℚ (share (pos most) (pos d) *ℚ z)) (sym h.ratio_is)
             (subst (λ z. share (pos reach) (pos e) ≤ℚ (share (pos most) z *ℚ ratio_of l m.row 0)) over
-            (≤ℚ_trans (share (pos reach) (pos e)) (size *ℚ ratio_of l m.row 0) (share (pos most) (over_of l) *ℚ ratio_of l m.row 0)
-            (≤ℚ_trans (share (pos reach) (pos e)) (size *ℚ ratio_of l i 0) (size *ℚ ratio_of l m.row 0)
-            (subst (λ z. share (pos reach) (pos e) ≤ℚ z) (sym (entry_times i moving)) on_side)
+            (≤ℚ-from_mul (share (pos reach) (pos e)) (share (pos most) (over_of l) *ℚ ratio_of l m.row 0) (power class) (power_above class)
+            (≤ℚ_trans bound (size *ℚ ratio_of l m.row 0) (power class *ℚ (share (pos most) (over_of l) *ℚ ratio_of l m.row 0))
+            (≤ℚ_trans bound (size *ℚ ratio_of l i 0) (size *ℚ ratio_of l m.row 0)
+            (subst (λ z. bound ≤ℚ z) (sym (entry_times i moving)) on_side)
             (≤ℚ_mul (ratio_of l i 0) (ratio_of l m.row 0) size (abs_not_negative (coord (model l) (inverse_at l) i l.position)) back))
-            (scaled_up size (share (pos most) (over_of l)) (ratio_of l m.row 0) small up))))
+            (subst (λ z. (size *ℚ ratio_of l m.row 0) ≤ℚ z)
+            (ring_ℚ (power class ∷ share (pos most) (over_of l) ∷ ratio_of l m.row 0 ∷ []) ((v0 ⊠ v1) ⊠ v2) (v0 ⊠ (v1 ⊠ v2)) refl)
+            (scaled_up size (power class *ℚ share (pos most) (over_of l)) (ratio_of l m.row 0) small up))))))
           where
             size : ℚ
             size = abs_ℚ (coord (model l) (inverse_at l) i l.position)
@@ -137,19 +150,22 @@ module _ (l : Line) (line : IsLine l) where
 -- ---- all far rows
 
 module _ (n : NearLine) (near : IsNearLine n) (numbers : List ℤ) (is : slice_get n.line.basis.now.inverse.now.columns n.line.position ≡ Some numbers) where
-  -- the coordinates are within their bound
+  -- the coordinates are within their bound, times the factors of the rows
   coord_small : (most : ℕ) → whole (pos most) ≡ most_of_products (length numbers) n.near.now.ranges (λ k. whole (get_or numbers k (pos 0)))
-      → (i : ℕ) → i < length n.line.basis.now.rows.now → abs_ℚ (coord (model n.line) (inverse_at n.line) i n.line.position) ≤ℚ share (pos most) (over_of n.line)
+      → (i : ℕ) → i < length n.line.basis.now.rows.now → abs_ℚ (coord (model n.line) (inverse_at n.line) i n.line.position) ≤ℚ (factor_at n.near.now.ranges.classes i *ℚ share (pos most) (over_of n.line))
   coord_small most bound i li =
-      subst (λ z. abs_ℚ z ≤ℚ share (pos most) (over_of n.line))
+      subst (λ z. abs_ℚ z ≤ℚ (factor *ℚ share (pos most) (over_of n.line)))
       (coordinates_by s near.line.held.shape n.line.basis.now.rows.now i n.line.position numbers made near.line.position is refl)
-      (subst (λ z. abs_ℚ made ≤ℚ z)
+      (subst (λ z. abs_ℚ made ≤ℚ (factor *ℚ z))
       (sym (most_share n.near.now.ranges numbers (length numbers) most (over_of n.line) (omega arith) near.line.held.shape.positive bound))
-      (products_stay_in_range (length numbers) n.near.now.ranges ((model n.line).x i) (share_at (over_of n.line) numbers)
+      (products_stay_in_range (length numbers) n.near.now.ranges factor ((model n.line).x i) (share_at (over_of n.line) numbers) (power_some (slice_index n.near.now.ranges.classes i))
       (λ k lk. near.near.ranges.each i li k (subst (λ m. k < m) (column_size s near.line.held.shape n.line.position numbers near.line.position is) lk))))
     where
       s : WholeSquare
       s = n.line.basis.now.inverse.now
+
+      factor : ℚ
+      factor = factor_at n.near.now.ranges.classes i
 
       made : ℚ
       made = sum_ℚ (length numbers) (λ k. (model n.line).x i k *ℚ share_at (over_of n.line) numbers k)
@@ -159,8 +175,8 @@ module _ (n : NearLine) (near : IsNearLine n) (numbers : List ℤ) (is : slice_g
   far_after m h most bound less i li far moving =
       let e : n.near.now.determinant ≡ pos (unsigned_abs n.near.now.determinant) = let p = near.near.some in omega (arith, ints, p) in
       let d : over_of n.line ≡ pos (unsigned_abs (over_of n.line)) = let p = near.line.held.shape.positive in omega (arith, ints, p) in
-      later_by n.line near.line m h n.near.now.reach (unsigned_abs n.near.now.determinant) most (let p = near.near.some in omega (arith, ints, p)) (unsigned_abs (over_of n.line)) d less i li
-      (coord_small most bound i li) (subst (λ z. IsFarOn (side_in n.line.sides.now i) (share (pos n.near.now.reach) z) (residual_of n.line i)) e far) moving
+      later_by n.line near.line m h n.near.now.reach (unsigned_abs n.near.now.determinant) most (let p = near.near.some in omega (arith, ints, p)) (unsigned_abs (over_of n.line)) d less i (slice_index n.near.now.ranges.classes i) li
+      (coord_small most bound i li) (subst (λ z. IsFarOn (side_in n.line.sides.now i) (factor_at n.near.now.ranges.classes i *ℚ share (pos n.near.now.reach) z) (residual_of n.line i)) e far) moving
 
 module _ (n : NearLine) (near : IsNearLine n) where
   -- the first of the near rows that comes before the far ones is the first of all
@@ -170,7 +186,7 @@ module _ (n : NearLine) (near : IsNearLine n) where
       first_of_all n.line near.line m (record { mover = first.mover; least = λ i li moving other. by i li moving other (near.far i li) })
     where
       by : (i : ℕ) → i < length n.line.basis.now.rows.now → is_moving n.line i ≡ true → i ≢ m.row
-          → IsNearOrFar n.near.now.rows (side_in n.line.sides.now i) (share (pos n.near.now.reach) n.near.now.determinant) i (residual_of n.line i) → comes_before n.line m.row i ≡ true
+          → IsNearOrFar n.near.now.rows (side_in n.line.sides.now i) (factor_at n.near.now.ranges.classes i *ℚ share (pos n.near.now.reach) n.near.now.determinant) i (residual_of n.line i) → comes_before n.line m.row i ≡ true
       by i li moving other (inl (k, lk, here)) =
           subst (λ z. is_moving n.line z ≡ true → IsBefore n.line m.row z) here (first.least k lk) moving other
       by i li moving other (inr far) = after i li far moving

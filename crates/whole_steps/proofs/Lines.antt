@@ -69,7 +69,7 @@ HasNear b sides coef near =
     (length coef ≡ length b.inverse.now.columns)
     × ((k : ℕ) → k < length b.inverse.now.columns → share_at b.inverse.now.determinant coef k ≡ coefficient p at a k)
     × IsNear p (side_in sides) near
-    × AreOthersFar p (side_in sides) near.rows (share (pos near.reach) near.determinant) (coefficient p at a)
+    × AreOthersFar p (side_in sides) near (share (pos near.reach) near.determinant) (coefficient p at a)
 
 -- a line with the coefficients and near rows of the station
 pub near_line : (s : Station) → IsStation s → (j : ℕ) (d : Direction) (n : NearLine) → IsLineOf s j d n.line → n.coef.now ≡ s.solution.now.coef → n.near.now ≡ s.solution.now.near → IsNearLine n

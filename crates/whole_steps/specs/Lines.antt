@@ -1,7 +1,7 @@
 -- Inner. The line along which a position leaves a basis of rows in whole numbers, and the rows that move on it.
 use Rattle.std.specs.Prelude.{◌≡◌, ◌≢◌, ◌⊎◌, ℕ, ℤ, ◌<◌, ◌≤◌, Bool, true, false, length, slice_get, slice_index}
 use Rattle.std.specs.Prelude.{Option, Some, None, pos}
-use Rattle.rational_laws.specs.Rational.{ℚ, neg_ℚ}
+use Rattle.rational_laws.specs.Rational.{ℚ, ◌*ℚ◌, neg_ℚ}
 use Rattle.loss_model.specs.Sample.{Sample, residual}
 use Rattle.loss_model.specs.Spill.{abs_ℚ}
 use Rattle.basis_model.specs.Perturbed.{ratio}
@@ -14,6 +14,7 @@ use Rattle.whole_inverse.specs.Squares.{inverse_of}
 use Rattle.whole_rows.specs.Wholes.{sample_of_rows}
 use Rattle.whole_solution.specs.Columns.{IsColumn}
 use Rattle.whole_solution.specs.Far.{AreOthersFar, IsFarOn, IsNear}
+use Rattle.whole_solution.specs.Ranges.{factor_at}
 use Rattle.loss_model.specs.Sides.{side_in}
 use Rattle.whole_solution.specs.Standing.{IsWholeBasis}
 use Rattle.whole_steps.specs.declared.full_line.FullLine.{FullLine}
@@ -82,7 +83,7 @@ pub record IsNearLine (n : NearLine) : Type 0 where
   pub columns : length n.coef.now ≡ length n.line.basis.now.inverse.now.columns
   pub coef : (k : ℕ) → k < length n.line.basis.now.inverse.now.columns → share_at (over_of n.line) n.coef.now k ≡ coefficient_of n.line k
   pub near : IsNear (model n.line) (side_in n.line.sides.now) n.near.now
-  pub far : AreOthersFar (model n.line) (side_in n.line.sides.now) n.near.now.rows (reach_of n) (coefficient_of n.line)
+  pub far : AreOthersFar (model n.line) (side_in n.line.sides.now) n.near.now (reach_of n) (coefficient_of n.line)
 
 -- rows are multiplied by the coefficients, and by the column of the position
 pub record IsLook (k : Look) : Type 0 where
@@ -139,8 +140,8 @@ IsFirstOf l row n (Some m) = IsFirstMoverOf l row n m
 abbrev pub IsFirstBelow : Line → ℕ → Option Mover → Type 0
 IsFirstBelow l n o = IsFirstOf l (λ i. i) n o
 
--- row r comes before every row that moves and is far on its side
+-- row r comes before every row that moves and is far on its side, times its factor
 abbrev pub AreFarAfter : NearLine → ℕ → Type 0
 AreFarAfter n r =
-    (i : ℕ) → i < length n.line.basis.now.rows.now → IsFarOn (side_in n.line.sides.now i) (reach_of n) (residual_of n.line i)
+    (i : ℕ) → i < length n.line.basis.now.rows.now → IsFarOn (side_in n.line.sides.now i) (factor_at n.near.now.ranges.classes i *ℚ reach_of n) (residual_of n.line i)
     → is_moving n.line i ≡ true → comes_before n.line r i ≡ true

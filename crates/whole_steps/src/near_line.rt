@@ -1,7 +1,8 @@
 //! A line of which the rows near the fit alone are looked at.
 //!
-//! All other rows have residuals of at least the reach on their sides, and coordinates within a bound. Where that makes their ratios
-//! greater than that of the first near row that moves, this is the first of all.
+//! All other rows have residuals of at least the reach on their sides, and coordinates within a bound, both times the factor of the row,
+//! which the ratio of the row so loses. Where that makes their ratios greater than that of the first near row that moves, this is the
+//! first of all.
 ghost use Rattle.std.specs.Prelude.{◌≡◌, ℕ, ◌+◌, ◌<◌, ◌≤◌, length, slice_index, true, IfOk, IfSome, IsTrue, pos};
 ghost use Rattle.basis_model.specs.Basis.{coord};
 ghost use Rattle.walk_model.specs.Walks.{IsFirstMover};

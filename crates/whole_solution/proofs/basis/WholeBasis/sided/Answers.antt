@@ -16,7 +16,7 @@ sides-requires-clause-residuals c =
 
 pub returns : goal.returns
 returns c =
-    let nearby = rw (c.as_slice-8.ensures) at (c.in_ok-nearby.ensures {u = tt}) in
+    let nearby = rw (c.as_slice-7.ensures) at (c.in_ok-nearby.ensures {u = tt}) in
     record {
       columns = c.requires.size;
       coef = c.requires.each;
