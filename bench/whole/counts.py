@@ -38,7 +38,7 @@ def counted(words, read):
 def main(program):
     """Prints each count with its limit, and ends with 1 where one is above it."""
     if not shutil.which("valgrind"):
-        print("counts: skipped, for valgrind was not found")
+        print("counts: skipped, since no command valgrind was found (Debian: apt install valgrind)")
         return 0
     failed = False
     with tempfile.TemporaryDirectory() as made:

@@ -6,19 +6,21 @@ use crate::certificates::{changed, read};
 use crate::told::Told;
 use cert_sums::{
     WholeProblem, beyond_bound, duals_balance, duals_meet, lies_inside, losses_hold, projects,
-    whole_table,
+    run_holds, whole_table,
 };
 use cert_text::Cert;
 use frac_core::Frac128;
 use loss_model::{Beyond, End, IntervalProof};
 use std::alloc::Global;
 
-// What is shown: that the dual values balance, that the losses hold, and that the next segment has the same dual values.
+// What is shown: that the dual values balance, that the losses hold, and that the next segment has the same dual values; and that all
+// of it holds of the run of all segments.
 #[derive(Clone, Copy)]
 struct Shown {
     balance: bool,
     losses: bool,
     joint: bool,
+    run: bool,
 }
 
 // Of a segment and the next one; a loss is looked at where the dual values balance.
@@ -31,17 +33,20 @@ fn shown_by(alloc: Global, cert: &Cert) -> Option<Shown> {
     let list = cert.segments.as_slice();
     let segment = list.first()?;
     let joint = duals_meet(alloc, whole, segment, list.get(1)?);
+    let run = run_holds(alloc, whole, list, 0, list.len());
     if !duals_balance(alloc, whole, segment) {
         return Some(Shown {
             balance: false,
             losses: false,
             joint,
+            run,
         });
     }
     Some(Shown {
         balance: true,
         losses: losses_hold(alloc, whole, segment),
         joint,
+        run,
     })
 }
 
@@ -63,6 +68,9 @@ fn tell_shown(told: &mut Told, shown: Shown) {
         (false, _, true) => "next",
         (false, _, false) => "nothing",
     });
+    if shown.run {
+        told.put(", and the run");
+    }
 }
 
 /// What sums show of a certificate with places written anew.

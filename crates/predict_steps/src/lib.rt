@@ -3,7 +3,7 @@
 //!
 //! The one contract: `steps` gives a record's prediction along each segment of a process, or names
 //! the operation that overflowed; and `rearrange` the same steps in the order of their values, as
-//! `specs/Rearranged.antt` defines it, with ends of any size. The laws say that steps have one
+//! `specs/Rearranged.antt` defines it, with ends of any size, in lowest terms by the law `all_lowest_ends`. The laws say that steps have one
 //! rearrangement. It stands on `loss_model`, whose processes are predicted from, and on `ratio`.
 //! Its cases stand in `cases`.
 //!
@@ -15,10 +15,12 @@
 #![tactic(auto)]
 
 pub mod laws;
+mod lowest;
 mod prediction;
 mod rearrangement;
 mod step;
 
+pub use lowest::all_lowest_ends;
 pub use prediction::steps;
 pub use rearrangement::rearrange;
 pub use step::{RearrangedStep, Step};

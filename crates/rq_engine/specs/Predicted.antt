@@ -1,5 +1,5 @@
 -- Stated. The right predictions of an input over a range of quantiles, and why there are none.
-use Rattle.std.specs.Prelude.{◌≡◌, ℕ, ◌≤◌, List, Contains, length, ⊤}
+use Rattle.std.specs.Prelude.{◌≡◌, ℕ, ◌≤◌, All, List, Contains, length, ⊤}
 use Rattle.std.specs.List.{AllZip}
 use Rattle.rational_laws.specs.Fraction.{rational}
 use Rattle.rational_laws.specs.Rational.{ℚ}
@@ -13,6 +13,7 @@ use Rattle.loss_model.specs.StartStop.{IsDependent}
 use Rattle.walk_model.specs.WalkTrails.{ReachesProcessLimit}
 use Rattle.tau_process.specs.Processes.{HasResults}
 use Rattle.tau_process.specs.Stops.{IsProcessSpill}
+use Rattle.predict_steps.specs.LowestEnds.{HasLowestEnds}
 use Rattle.predict_steps.specs.Predictions.{pieces, rearranged_pieces, AreSteps}
 use Rattle.predict_steps.specs.Rearranged.{IsRearrangement}
 use Rattle.predict_steps.specs.Spills.{IsStepsSpill}
@@ -28,11 +29,13 @@ use Rattle.rq_input.specs.declared.predictions.PredictionInput.{PredictionInput}
 use Rattle.rq_engine.specs.Fit.{IsRightProcess}
 use Rattle.rq_engine.specs.Stops.{most}
 
--- the prediction of a row: a step along each of the segments, and the rearrangement of these from lo to hi
+-- the prediction of a row: a step along each of the segments, and the rearrangement of these from lo to hi, whose ends are in
+-- lowest terms
 pub record IsPredictionBy (lo hi : ℚ) (segments : List (Segment Frac128)) (row : PredictRow) (prediction : Prediction) : Type 0 where
   pub named : prediction.rec ≡ row.rec
   pub steps : AreSteps value row.x row.offsets segments prediction.steps
   pub rearranged : IsRearrangement lo hi (pieces value prediction.steps) (rearranged_pieces value prediction.rearranged)
+  pub lowest : All HasLowestEnds prediction.rearranged
 
 -- the right process of the problem of the input, and the predictions along it of the rows that are asked; what is told
 -- beside is the design's

@@ -1,5 +1,5 @@
 -- Stated. The right rank test of an input, and why there is none.
-use Rattle.std.specs.Prelude.{◌≡◌, List, length, pos, slice_index, ⊤}
+use Rattle.std.specs.Prelude.{◌≡◌, All, List, length, pos, slice_index, ⊤}
 use Rattle.rational_laws.specs.Fraction.{Fraction, rational}
 use Rattle.rational_laws.specs.Rational.{whole}
 use Rattle.frac_core.specs.declared.frac128.Frac128.{Frac128}
@@ -12,6 +12,7 @@ use Rattle.loss_model.specs.Segment.{Covers, segments_of}
 use Rattle.loss_model.specs.StartStop.{IsDependent, IsStartSpill}
 use Rattle.walk_model.specs.WalkTrails.{ReachesProcessLimit}
 use Rattle.tau_process.specs.Stops.{IsProcessSpill}
+use Rattle.ratio.specs.Lowest.{IsLowest}
 use Rattle.rankscores.specs.Wilcoxon.{AreWilcoxon}
 use Rattle.nested_test.specs.Nested.{column_score, AreScores, IsNestedStatistic}
 use Rattle.nested_test.specs.Restricted.{restricted_problem}
@@ -32,11 +33,13 @@ pub record AreScoredBy (job : FitJob) (p : Problem Frac128) (q : Process Frac128
   pub covers : Covers (length p.rows) (whole (pos 0)) (whole (pos 1)) (segments_of value p q.segments)
   pub scores : AreWilcoxon value p q.segments wilcoxon
 
--- the scores of the tested columns and the statistic, by these Wilcoxon scores
+-- the scores of the tested columns and the statistic, by these Wilcoxon scores, and all in lowest terms
 pub record IsStatisticBy (job : TestJob) (p : Problem Frac128) (wilcoxon : List Fraction) (fit : TestFit) : Type 0 where
   pub scores : AreScores value p job.tested (value_at (λ x. x) wilcoxon) fit.scores
   pub statistic : IsNestedStatistic (sample value p) (slice_index job.tested) (length job.tested) (column_score (sample value p) (value_at (λ x. x) wilcoxon))
       (rational fit.statistic)
+  pub lowest_scores : All IsLowest fit.scores
+  pub lowest : IsLowest fit.statistic
 
 -- of independent columns, the right process of the problem without the tested ones, and the scores of these and the
 -- statistic by the Wilcoxon scores of that process; what is told beside is the design's and the job's

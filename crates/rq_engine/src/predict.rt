@@ -18,7 +18,7 @@ use design_matrix::{Design, PredictRow};
 use frac_core::{Frac128, List};
 use loss_model::{Problem, Process, Short};
 use predict_steps::laws::cover;
-use predict_steps::{rearrange, steps};
+use predict_steps::{all_lowest_ends, rearrange, steps};
 use report_text::{Halt, Place, PredictFit, Prediction};
 use rq_input::{PredictionInput, read_predictions};
 use rq_words::FitJob;
@@ -57,6 +57,7 @@ fn prediction_of(
         rec,
     )?;
     let rearranged = rearrange(alloc, steps.as_slice())?;
+    all_lowest_ends(rearranged.as_slice());
     Ok(Prediction {
         rec,
         steps,

@@ -10,6 +10,7 @@ use crate::fit::fit_input;
 use frac_core::OutOfMemory;
 use rank_inversion::Purpose;
 use rankscores::wilcoxon;
+use ratio::all_lowest;
 use report_text::{Halt, RanksFit};
 use rq_fan::Gate;
 use rq_input::{Input, read_input};
@@ -39,7 +40,10 @@ pub(crate) fn ranks_input<R: Threads + Sync, G: Gate>(
         Err(halt) => return Err(halt),
     };
     match wilcoxon(alloc, &fit.problem, &fit.process) {
-        Ok(wilcoxon) => Ok(RanksFit { fit, wilcoxon }),
+        Ok(wilcoxon) => {
+            all_lowest(wilcoxon.as_slice());
+            Ok(RanksFit { fit, wilcoxon })
+        }
         Err(OutOfMemory) => Err(Halt::OutOfMemory),
     }
 }

@@ -22,7 +22,7 @@ use loss_model::{Problem, Process};
 use nested_test::laws::restricted_is_askable;
 use nested_test::{NestedStatistic, nested, restricted};
 use rankscores::wilcoxon;
-use ratio::Ratio;
+use ratio::{Ratio, all_lowest};
 use report_text::{Halt, Place, TestFit};
 use rq_input::{Input, read_tested};
 use rq_words::TestJob;
@@ -123,6 +123,8 @@ pub(crate) fn test_input(alloc: Global, job: &TestJob, input: Input) -> Result<T
         Ok(found) => found,
         Err(OutOfMemory) => return Err(Halt::OutOfMemory),
     };
+    all_lowest(found.scores.as_slice());
+    found.statistic.lowest();
     match List::copy(alloc, tested) {
         Ok(tested) => Ok(fit_of(input.design, tested, process, found)),
         Err(OutOfMemory) => Err(Halt::OutOfMemory),

@@ -23,10 +23,10 @@ pub fn report_is_least<N: Numbers>()
     minimum_over_reals();
 }
 
-/// Where no score of a basic row is 0 or 1, no other vector of real numbers loses as little as the printed coefficients. None
-/// does strictly between both ends of a segment, also at a real quantile, where no row's scores are twice 0 or twice 1
-/// (Koenker 2005, section 2.2.2). It is so of a process, and of the fit under Wilcoxon scores, of a generated table and in a
-/// certificate that is written.
+/// Where the basis has records alone and no score of it is 0 or 1, no other vector of real numbers loses as little as the
+/// printed coefficients. None does strictly between both ends of a segment, also at a real quantile, where no row's scores of
+/// such a basis are twice 0 or twice 1 (Koenker 2005, section 2.2.2). It is so of a process, and of the fit under Wilcoxon
+/// scores, of a generated table and in a certificate that is written.
 pub fn fit_is_only<N: Numbers>()
     ensures every { FitIsOnly N.ring }
     ensures real { FitIsOnly reals }
@@ -50,8 +50,9 @@ pub fn fit_is_read()
     least_loss();
 }
 
-/// The segments of a printed report stay as they are where each response stays on its side of them, however far it moves: that
-/// of a record with the mark 1 up, and that of one with the mark 0 down.
+/// The coefficients of a printed segment minimise, and its dual values show it, also where each response stays on its side of
+/// them, however far it moves: that of a record with the mark 1 up, and that of one with the mark 0 down. A run on such
+/// responses may print another basis, and so other scores.
 pub fn fit_is_steady()
     ensures { ReportIsSteady }
 {

@@ -10,5 +10,6 @@ returns-clause-predicted c lo hi covers =
     record {
       named = refl;
       steps = are;
+      lowest = rw c.as_slice-4.ensures at c.all_lowest_ends.ensures;
       rearranged = rw c.as_slice-3.ensures at (c.in_ok-rearranged.ensures lo hi (rw c.as_slice-3.ensures (joined process.segments row c.args.problem.now c.cover.ensures _ lo hi covers c.in_ok-steps.steps are)));
     }

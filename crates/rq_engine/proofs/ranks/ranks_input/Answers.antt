@@ -18,4 +18,9 @@ wilcoxon-requires-clause-covers g c κs = covers_unit c.args.job.now c.requires.
 
 pub returns-in-Ok-wilcoxon-clause-right : goal.returns-in-Ok-wilcoxon-clause-right
 returns-in-Ok-wilcoxon-clause-right g c =
-    record { fit = c.in-Ok.ensures.right; covers = covers_unit c.args.job.now c.requires.ask c.in-Ok.fit c.in-Ok.ensures.right.right; wilcoxon = c.in-Ok-wilcoxon.ensures }
+    record {
+      fit = c.in-Ok.ensures.right;
+      covers = covers_unit c.args.job.now c.requires.ask c.in-Ok.fit c.in-Ok.ensures.right.right;
+      wilcoxon = c.in-Ok-wilcoxon.ensures;
+      lowest = rw c.as_slice.ensures at c.all_lowest.ensures;
+    }
