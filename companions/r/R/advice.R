@@ -75,9 +75,10 @@ advice_by_name <- list(
     NothingToPredict = function(fault, model) paste0("A record to predict has NA as its ", deparse1(model$formula[[2]]), " and all other cells that are used.")
 )
 
-# What to say of a fault over a model, or nothing.
+# What to say of a fault over a model: by its names, or what the manual says of the line; nothing where there is no line.
 advice_of <- function(fault, model) {
     maker <- advice_by_name[[fault$name]]
     told <- tryCatch(if (!is.null(maker)) maker(fault, model), error = function(unclear) NULL)
-    c(if (fault$group %in% c("table", "formula", "design")) separator_advice(model$data), told)[1]
+    line <- match(paste0(fault$group, ": ", fault$name), names(fault_sentences), nomatch = 0)
+    utils::head(c(if (fault$group %in% c("table", "formula", "design")) separator_advice(model$data), told, unname(fault_sentences[line])), 1)
 }
