@@ -2,7 +2,7 @@
 
 overflow_advice <- paste(
     "A number outgrew the program's. Round columns of many digits, as round(x, 2), or write decimals as whole numbers of a smaller unit;",
-    "ask for a smaller range of quantiles; or give a shorter critical value, as crit = \"46/17\" for 0.1 and \"73/19\" for 0.05."
+    "ask for a smaller range of quantiles; or give a shorter critical value by crit =."
 )
 
 # The question whether a known word was meant, where one is close.
