@@ -87,6 +87,11 @@ class Reports(unittest.TestCase):
     def test_a_certificate(self):
         self.shown(CERTIFICATE, "lo,hi,column 1,loss_lo,loss_hi", "0.50,0.50,2.33,0.00,0.00", "", "column,tau,low,high", "column 1,0.50,-Inf,2.33", digits=2, as_csv=True)
 
+    def test_each_kind_of_report_that_the_program_prints_is_known(self):
+        sources = "".join(it.read_text() for it in sorted((HERE.parent / "crates/report_text/src").glob("*.rt")))
+        printed = set(re.findall(r'put\(b"(quantreg(?: \w+)? \d+)\\n"\)', sources))
+        self.assertEqual(printed, set(quantreg_table.JOBS))
+
     def test_names_as_they_stand(self):
         report = INTERVALS.replace("column 2 x", 'column 2 segment 1, "a" coef\\x0a')
         self.assertEqual(next(csv.reader(io.StringIO(table_text(report, as_csv=True))))[3], 'segment 1, "a" coef\\x0a')
