@@ -76,6 +76,7 @@ class Reports(unittest.TestCase):
     def test_predictions(self):
         head = "record,lo,hi,prediction"
         self.shown(PREDICT, head, "4,0.0,0.6,4.0", "4,0.6,1.0,3.5", "", head, "4,0.0,0.4,3.5", "4,0.4,1.0,4.0", digits=1, as_csv=True)
+        self.shown(PREDICT, head, "4,0.0,0.4,3.5", "4,0.4,1.0,4.0", digits=1, as_csv=True, name="rearranged")
 
     def test_a_path(self):
         self.shown(PATH, "lo,hi,(Intercept),x,loss_lo,loss_hi", "0.25,2.00,2.00,0.00,1.50,1.50", digits=2, as_csv=True)
