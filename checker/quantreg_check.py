@@ -1,9 +1,11 @@
 #!/usr/bin/env python3
 """Checks a certificate of quantreg by itself, in plain Python with fractions of any size.
 
-    quantreg_check.py [FILE]          the certificate of a file, or of standard input
+    quantreg_check.py [FILE]          the certificate of a file, or of standard input; in packages the command is quantreg-check
     quantreg_check.py --table TABLE.csv [--formula FORMULA] [--weights NAME] [FILE]
-                                      and whether its rows are those of that table, by quantreg_table.py beside this file
+                                      and whether its rows are those of that table, by quantreg_rows.py beside this file: by the
+                                      formula of the fit and the column of its weights, or by a formula that has the same values
+    quantreg_check.py --help          these lines
 
 It needs no solver: nine conditions on the coefficients and dual values of a certificate show that the coefficients have the least loss
 at every quantile of its range, and that its rank intervals are right (Koenker 2005, chapters 3 and 6). They are tested in their order,
@@ -332,12 +334,15 @@ def first_false(cert):
     return next((test for test in tests if (test[3] > test[5]) - (test[3] < test[5]) not in SIGNS[test[4]]), None)
 
 
-def main(words):
-    told = None
+def main(words=None):
+    told, words = None, sys.argv[1:] if words is None else words
+    if {"-h", "--help"} & set(words):
+        print(__doc__.strip())
+        return 0
     if any(word.startswith("--") for word in words):
-        import quantreg_table  # what a table takes stands beside this file, and is read where it is asked for
+        import quantreg_rows  # what a table takes stands beside this file, and is read where it is asked for
 
-        told, words = quantreg_table.asked(words)
+        told, words = quantreg_rows.asked(words)
     try:
         with open(words[0] if words else 0, "rb") as file:
             cert = certificate(json.loads(file.read().decode("utf-8"), parse_constant=fraction, object_pairs_hook=once))
@@ -361,4 +366,4 @@ def main(words):
 
 
 if __name__ == "__main__":
-    sys.exit(main(sys.argv[1:]))
+    sys.exit(main())

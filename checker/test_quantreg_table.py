@@ -1,201 +1,296 @@
-"""The rows of certificates beside tables, each written by hand; and runs of the checker with --table.
-
-Where QUANTREG names the program, certificates that it writes are looked at too.
+"""Tables of decimals of reports that are written by hand; and, where QUANTREG names the program, of what it prints on each job, beside
+decimals that are worked out apart, digit by digit.
 """
 
 import ast
+import csv
 import io
-import json
 import os
+import re
 import subprocess
-import tempfile
+import sys
 import unittest
-from contextlib import redirect_stderr, redirect_stdout
 from pathlib import Path
 
-import quantreg_check
 import quantreg_table
-from test_quantreg_check import LINE, certificate, changed, data_row, segment
+from quantreg_table import NoReport, decimal, table_text
 
 HERE = Path(__file__).resolve().parent
 EXAMPLES = HERE.parent / "examples"
-SAME, DIFFERENT, UNKNOWN = quantreg_table.SAME, quantreg_table.DIFFERENT, quantreg_table.UNKNOWN
-# The table of LINE, and the same with all that a table may have beside its numbers.
-PLAIN = b"y,x\n0,0\n2,1\n3,3\n"
-DRESSED = b'\xef\xbb\xbf"",z,y,"x"\r\n"a",q,0, 0 \r\n\r\n"b","q,r",2e0,2/2\r\n"c",,+3.,.3e1'
+HEAD = "records 3 dropped 1\ncolumn 1 (Intercept)\ncolumn 2 x\n"
+FIRST = "segment 1 0 3/5\ncoef 1 0\ncoef 2 1\nloss 0 3/5\nscores *1*\nbasic 1 1 0\nbasic 3 1 1/5\n"
+SECOND = "segment 2 3/5 1\ncoef 1 3/2\ncoef 2 1/2\nloss 3/5 0\nscores 0**\nbasic 2 1 0\nbasic 3 1/5 0\n"
+PROCESS = f"quantreg 1\n{HEAD}data 3 penalty 0\npivots 2\n{FIRST}{SECOND}end\n"
+INTERVALS = PROCESS.replace("end\n", "interval 1 1/3 -Inf 3/2\ninterval 2 1/3 -2/3 Inf\nend\n")
+RANKS = f"quantreg ranks 1\n{HEAD}pivots 2\nwilcoxon 1 -1/5\nwilcoxon 2 3/10\nwilcoxon 3 -1/10\nend\n"
+TEST = f"quantreg test 1\n{HEAD}tested 2\npivots 2\nscore 2 1\nstatistic 18/7\nend\n"
+PREDICT = f"quantreg predict 1\n{HEAD}pivots 2\npredict 4\nstep 0 3/5 4\nstep 3/5 1 7/2\nrearranged 4\nstep 0 2/5 7/2\nstep 2/5 1 4\nend\n"
+PATH = f"quantreg path 1\n{HEAD}data 3 penalty 1\npivots 3\nsegment 1 1/4 2\ncoef 1 2\ncoef 2 0\nloss 3/2 3/2\nsides -*+*\ndual 2 0 0\ndual 4 -3/2 -3/2\nend\n"
+SAMPLE = "quantreg sample 1\nrecords 2 dropped 0\ncolumns 2\nsegments 1\npivots 0\nloss 1/6 0\nend\n"
+CHECK = "quantreg check 1\ncolumns 2\nrows 3\nsegments 2\nintervals 0\naccepted\nend\n"
+ROWS = '{"down0":"1","down1":"-1","up0":"0","up1":"1","x":["1"],"y":"7/3"}'
+END = '{"coef":["7/3"],"inside":["0"],"kind":"%s","sides":"*",%s}'
+LOW, HIGH = END % ("infinite", '"ray":["-1"]'), END % ("finite", '"outside":["1"],"value":"7/3"')
+INTERVAL = f'{{"column":0,"crit":"1","high":{HIGH},"low":{LOW},"projection":["0"],"tau":"1/2"}}'
+SEGMENT = '{"basic_hi":["0"],"basic_lo":["0"],"coef":["7/3"],"hi":"1/2","lo":"1/2","loss_hi":"0","loss_lo":"0","sides":"*"}'
+CERTIFICATE = f'{{"columns":1,"hi":"1/2","intervals":[{INTERVAL}],"kind":"quantreg-certificate","lo":"1/2","rows":[{ROWS}],"segments":[{SEGMENT}],"version":1}}\n'
 
 
-def answer(cert, table, formula=None, weights=None):
-    """The status and the line of an answer, with the table called T."""
-    with tempfile.NamedTemporaryFile(suffix=".csv") as file:
-        file.write(table)
-        file.flush()
-        status, line = quantreg_table.answer(quantreg_check.certificate(cert), file.name, formula, weights)
-    return status, line.replace(file.name, "T")
+class Reports(unittest.TestCase):
+    def shown(self, report, *lines, **how):
+        self.assertEqual(table_text(report, **how), "".join(line + "\n" for line in lines))
 
+    def test_a_process(self):
+        self.shown(PROCESS, "lo,hi,(Intercept),x,loss_lo,loss_hi", "0.00,0.60,0.00,1.00,0.00,0.60", "0.60,1.00,1.50,0.50,0.60,0.00", digits=2, as_csv=True)
 
-class Formulas(unittest.TestCase):
-    def table(self, cert, table, cases, weights=None):
-        for formula, status, word in cases:
-            with self.subTest(table=table, formula=formula):
-                found, line = answer(cert, table, formula, weights)
-                self.assertEqual(found, status, line)
-                self.assertIn(word, line)
-
-    def test_the_rows_of_a_plain_formula(self):
-        for formula in ("y ~ x", "y~x", "y ~ .", "`y` ~ `x`", "y ~ 1 + x", "y ~ 0 + x + 1", "y ~ + x + x", "y ~ -x + x", "y\n~\tx - 0"):
-            self.assertEqual(answer(LINE, PLAIN, formula), (SAME, f"the rows are those of T by {formula}, 3 of 3 records"))
-        self.table(LINE, DRESSED, [("y ~ x", SAME, "3 of 3"), ("y ~ . - z", SAME, "3 of 3")])
-
-    def test_other_columns(self):
-        self.table(
-            LINE,
-            b"y,x,z\n0,0,0\n2,1,1\n3,3,2\n",
-            [
-                ("y ~ z", DIFFERENT, "row 3, record 3 of the table: z is 3 in the certificate, and 2 in the table"),
-                ("x ~ y", DIFFERENT, "row 2, record 2 of the table: x is 2 in the certificate, and 1 in the table"),
-                ("y ~ 0 + z + x", DIFFERENT, "row 1, record 1 of the table: z is 1 in the certificate, and 0 in the table"),
-                ("y ~ x - 1", DIFFERENT, "the certificate has 2 columns, and the formula 1"),
-                ("y ~ x + 0", DIFFERENT, "2 columns, and the formula 1"),
-                ("y ~ .", DIFFERENT, "2 columns, and the formula 3"),
-                ("y ~ w", DIFFERENT, "the table has no column w"),
-            ],
+    def test_columns_are_aligned(self):
+        self.shown(
+            INTERVALS.replace("column 2 x", "column 2 flow of air"),
+            " lo   hi  (Intercept)  flow of air  loss_lo  loss_hi",
+            "0.0  0.6          0.0          1.0      0.0      0.6",
+            "0.6  1.0          1.5          0.5      0.6      0.0",
+            "",
+            "column       tau   low  high",
+            "(Intercept)  0.3  -Inf   1.5",
+            "flow of air  0.3  -0.7   Inf",
+            digits=1,
         )
 
-    def test_changed_tables(self):
-        for old, new, word in [
-            (b"2,1", b"2,3/2", "row 2, record 2 of the table: x is 1 in the certificate, and 3/2 in the table"),
-            (b"2,1", b"2.0000000000000001,1", "record 2 of the table: y is 2 in the certificate"),
-            (b"0,0\n2,1", b"2,1\n0,0", "row 1, record 1 of the table: y is 0"),
-            (b"3,3\n", b"3,3\n3,3\n", "the certificate has 3 rows, and the table keeps 4 records"),
-            (b"3,3", b"3,NA", "the certificate has 3 rows, and the table keeps 2 records"),
-            (b"3,3", b"3", "record 3 has 1 fields, and the header 2"),
-            (b"y,x", b"y,y", "two of one name"),
-            (PLAIN, b"\n\n", "no header"),
-            (PLAIN, b"y,\xff\n", "no UTF-8"),
+    def test_one_part(self):
+        self.shown(INTERVALS, "column,tau,low,high", "(Intercept),0.33333,-Inf,1.50000", "x,0.33333,-0.66667,Inf", as_csv=True, name="intervals")
+        with self.assertRaisesRegex(NoReport, "it has no part 'intervals': it has segments, scores"):
+            table_text(PROCESS, name="intervals")
+
+    def test_rankscores(self):
+        lines = ["0.0,0.6,1,1.0,0.0", "0.0,0.6,2,1.0,1.0", "0.0,0.6,3,1.0,0.2", "0.6,1.0,1,0.0,0.0", "0.6,1.0,2,1.0,0.0", "0.6,1.0,3,0.2,0.0"]
+        self.shown(PROCESS, "lo,hi,record,score_lo,score_hi", *lines, digits=1, as_csv=True, name="scores")
+        with_penalty = PROCESS.replace("penalty 0", "penalty 2").replace("scores *1*", "scores *1*+-").replace("scores 0**", "scores 0**-+")
+        self.shown(with_penalty, "lo,hi,record,score_lo,score_hi", *lines, digits=1, as_csv=True, name="scores")
+
+    def test_ranks(self):
+        self.shown(RANKS, "record,score", "1,-0.20", "2,0.30", "3,-0.10", digits=2, as_csv=True)
+
+    def test_a_rank_test(self):
+        self.shown(TEST, "column,score", "x,1.000", "", "statistic", "2.571", digits=3, as_csv=True)
+
+    def test_predictions(self):
+        head = "record,lo,hi,prediction"
+        self.shown(PREDICT, head, "4,0.0,0.6,4.0", "4,0.6,1.0,3.5", "", head, "4,0.0,0.4,3.5", "4,0.4,1.0,4.0", digits=1, as_csv=True)
+        self.shown(PREDICT, head, "4,0.0,0.4,3.5", "4,0.4,1.0,4.0", digits=1, as_csv=True, name="rearranged")
+
+    def test_a_path(self):
+        self.shown(PATH, "lo,hi,(Intercept),x,loss_lo,loss_hi", "0.25,2.00,2.00,0.00,1.50,1.50", digits=2, as_csv=True)
+
+    def test_summaries(self):
+        self.shown(SAMPLE, "records,dropped,columns,segments,pivots,loss_lo,loss_hi", "2,0,2,1,0,0.1667,0.0000", digits=4, as_csv=True)
+        self.shown(CHECK, "columns,rows,segments,intervals,verdict", "2,3,2,0,accepted", as_csv=True)
+
+    def test_a_certificate(self):
+        self.shown(CERTIFICATE, "lo,hi,column 1,loss_lo,loss_hi", "0.50,0.50,2.33,0.00,0.00", "", "column,tau,low,high", "column 1,0.50,-Inf,2.33", digits=2, as_csv=True)
+
+    def test_each_kind_of_report_that_the_program_prints_is_known(self):
+        sources = "".join(it.read_text() for it in sorted((HERE.parent / "crates/report_text/src").glob("*.rt")))
+        printed = set(re.findall(r'put\(b"(quantreg(?: \w+)? \d+)\\n"\)', sources))
+        self.assertEqual(printed, set(quantreg_table.JOBS))
+
+    def test_names_as_they_stand(self):
+        report = INTERVALS.replace("column 2 x", 'column 2 segment 1, "a" coef\\x0a')
+        self.assertEqual(next(csv.reader(io.StringIO(table_text(report, as_csv=True))))[3], 'segment 1, "a" coef\\x0a')
+        self.assertIn('  segment 1, "a" coef\\x0a  ', table_text(report))
+
+    def test_what_is_no_report(self):
+        for text, why in [
+            ("", "it is empty"),
+            ("quantreg 2\nend\n", "its first line is that of no report"),
+            (PROCESS.removesuffix("end\n"), "it has no line 'end'"),
+            (PROCESS.removesuffix("\n"), "it has no line 'end'"),
+            (PROCESS.replace("coef 2 1\n", ""), "has not a coefficient for each column"),
+            (PROCESS.replace("coef 2 1\n", "coef 1 1\n"), "has not a coefficient for each column"),
+            (PROCESS.replace("loss 0 3/5\n", ""), "it has 0 lines 'loss'"),
+            (PROCESS.replace("loss 0 3/5", "loss 0"), "'0' has 1 words, and not 2"),
+            (PROCESS.replace("coef 2 1\n", "coef 2 one\n"), "'one' is no number"),
+            (PROCESS.replace("coef 2 1\n", "coef 2 1/0\n"), "'1/0' is no number"),
+            (PROCESS.replace("coef 2 1\n", "coef 2 1e3\n"), "'1e3' is no number"),
+            (PROCESS.replace("basic 1 1 0\n", ""), "its lines are not those of such a report"),
+            (PROCESS.replace("scores *1*", "scores *?*"), "its lines are not those of such a report"),
+            (INTERVALS.replace("interval 2", "interval 3"), "it has no column 3"),
+            (PREDICT.replace("predict 4", "predict four"), "'four' is no count"),
+            (CHECK.replace("accepted\n", ""), "it has no line 'accepted'"),
+            (CERTIFICATE.replace('"version":1', '"version":3'), "it is no certificate: "),
+            ("{", "it is no certificate: "),
         ]:
-            self.table(LINE, PLAIN.replace(old, new), [("y ~ x", DIFFERENT, word)])
+            with self.subTest(text=text), self.assertRaisesRegex(NoReport, re.escape(why)):
+                table_text(text)
 
-    def test_numbers_that_are_too_long_to_be_shown(self):
-        word = "y is (a number of more than 60 digits) in the certificate, and 3 in the table"
-        for long in ("1" * 61, "1/1" + 60 * "0", "1e9999"):
-            self.table(changed(LINE, "rows/2/y", long), PLAIN, [("y ~ x", DIFFERENT, word)])
 
-    def test_records_that_are_left_out(self):
-        table = b"y,x,z\n0,0,\n,7,1\n2,1,1\nNA,1,1\n3, \t,1\n3,3,1\n"
-        self.table(LINE, table, [("y ~ x", SAME, "3 of 6 records"), ("y ~ x + z", DIFFERENT, ""), (None, UNKNOWN, "name it by --formula")])
-
-    def test_weights(self):
-        heavy = {"down0": "3", "down1": "-3", "up1": "3"}
-        rows = [data_row(5, 1), {**data_row(2, 1), **heavy}]
-        # Of the responses 5 and 2 with the weights 1 and 3 the second is the median, and 5 loses 3/2.
-        cert = certificate(rows, [segment("1/2", "1/2", "2", "+*", "-1/2", "-1/2", "3/2", "3/2")], lo="1/2", hi="1/2")
-        table = b"y,w\n5,1\n9,0\n8,\n2,3\n"
-        self.table(cert, table, [("y ~ 1", SAME, "2 of 4 records, weighted by w")], "w")
-        self.table(cert, table, [("y ~ 1", DIFFERENT, "the table keeps 4 records")])
-        self.table(cert, b"y,w\n5,1\n2,2\n", [("y ~ 1", DIFFERENT, "the weight is 3 in the certificate, and 2 in the table")], "w")
-        self.table(cert, b"y,w\n5,1\n2,3\n", [("y ~ 1", DIFFERENT, "the weight is 3 in the certificate, and 1 in the table")])
-        self.assertEqual(answer(cert, b"y,w\n5,1\n2,3\n"), (SAME, "the rows are those of T by y ~ 1, 2 of 2 records, weighted by w"))
-
-    def test_what_this_can_not_tell(self):
-        table = PLAIN.replace(b"y,x", b"y,x,f").replace(b"\n2,1", b"\n2,1,b").replace(b"0,0\n", b"0,0,a\n").replace(b"3,3\n", b"3,3,a\n")
-        cases = ["x:x", "x * x", "x^2", "(x)", "factor(x)", "I(x)", "offset(x)", "qss(x, 1)", "x + 2", "x + 1e0", "x ++ x", "x +", "x / x"]
-        self.table(LINE, table, [(f"y ~ {it}", UNKNOWN, "is no plain formula") for it in cases])
-        self.table(LINE, table, [("y ~ x + f", UNKNOWN, "the column f is a factor: record 1 has 'a'"), ("y ~ .", UNKNOWN, "f is a factor")])
-        self.table(LINE, table, [("", UNKNOWN, "no formula"), ("log(y) ~ x", UNKNOWN, "no formula"), ("y", UNKNOWN, "no formula")])
-        self.table(LINE, b"y,x\n0,0\n2,1\n3,1e501\n", [("y ~ x", UNKNOWN, "record 3 has a number of more than 500 digits in x")])
-        self.assertEqual(quantreg_table.answer(quantreg_check.certificate(LINE), "/nowhere/table")[0], UNKNOWN)
-
-    def test_rows_of_a_smooth(self):
-        penalty = {"down0": "1", "down1": "0", "up0": "1", "up1": "0", "x": ["1", "0"], "y": "0"}
-        self.table({**LINE, "rows": [*LINE["rows"][:2], penalty]}, PLAIN, [("y ~ x", UNKNOWN, "row 3 has the costs of no record")])
-
-    def test_with_no_formula(self):
-        for table, status, line in [
-            (PLAIN, SAME, "the rows are those of T by y ~ 1 + x, 3 of 3 records"),
-            (DRESSED.replace(b'"x"', b'"x y"'), SAME, "the rows are those of T by y ~ 1 + `x y`, 3 of 3 records"),
-            (
-                PLAIN.replace(b"2,1", b"2,5"),
-                DIFFERENT,
-                "not the rows of T: column 2 is x but for 1 of 3 records: record 2 is 1 in the certificate, and 5 in the table",
-            ),
-            (
-                b"y,x\n0,a\n2,b\n3,a\n",
-                UNKNOWN,
-                "cannot tell whether the rows are those of T: column 2 is no column of the table: name the formula by --formula",
-            ),
-            (b"y,x\n0,0\n2,1\n", DIFFERENT, "not the rows of T: the certificate has 3 rows, and the table 2 records"),
+class Rounding(unittest.TestCase):
+    def test_the_nearest_decimal_and_of_two_the_even_one(self):
+        for text, digits, wanted in [
+            ("1/2", 0, "0"), ("3/2", 0, "2"), ("5/2", 0, "2"), ("-5/2", 0, "-2"), ("7/2", 0, "4"),
+            ("1/8", 2, "0.12"), ("3/8", 2, "0.38"), ("-1/8", 2, "-0.12"), ("1/8", 3, "0.125"), ("1/8", 5, "0.12500"),
+            ("2/3", 4, "0.6667"), ("-2/3", 4, "-0.6667"), ("1/3", 4, "0.3333"), ("999/1000", 2, "1.00"), ("-1/1000", 2, "0.00"),
+            ("13693/345", 5, "39.68986"), ("12500001/100000000", 2, "0.13"), ("12499999/100000000", 2, "0.12"), ("7", 0, "7"), ("-12", 1, "-12.0"),
         ]:
-            self.assertEqual(answer(LINE, table), (status, line))
+            with self.subTest(text=text, digits=digits):
+                self.assertEqual(decimal(quantreg_table.number(text), digits), wanted)
+
+    def test_numbers_beyond_a_float(self):
+        text = RANKS.replace("-1/5", f"{10**400 + 1}/{3 * 10**400}").replace("3/10", str(2**127 - 1))
+        lines = table_text(text, digits=20, as_csv=True).splitlines()
+        self.assertEqual(lines[1:3], ["1,0." + "3" * 20, "2,170141183460469231731687303715884105727." + "0" * 20])
 
 
-class Runs(unittest.TestCase):
-    def run_on(self, cert, *words):
-        with tempfile.TemporaryDirectory() as room:
-            table, file = Path(room, "table.csv"), Path(room, "fit.json")
-            table.write_bytes(PLAIN)
-            file.write_text(json.dumps(cert))
-            said, told = io.StringIO(), io.StringIO()
-            with redirect_stdout(said), redirect_stderr(told):
-                try:
-                    status = quantreg_check.main([{"TABLE": str(table), "FILE": str(file)}.get(word, word) for word in words])
-                except SystemExit as end:
-                    status = end.code
-        return status, said.getvalue().splitlines()[-1:], told.getvalue()
+class Command(unittest.TestCase):
+    """The script as it is called."""
 
-    def test_the_status_says_what_the_last_line_says(self):
-        status, (last,), _ = self.run_on(LINE, "--table", "TABLE", "FILE")
-        self.assertEqual((status, last[:24], last[-27:]), (0, "the rows are those of /t", "by y ~ 1 + x, 3 of 3 records"[-27:]))
-        self.assertEqual(self.run_on(LINE, "FILE", "--table=TABLE", "--formula=y ~ x")[0], 3)  # a file by that very name isn't there
-        self.assertEqual(self.run_on(LINE, "FILE", "--table", "TABLE", "--formula=y ~ x")[0], 0)
-        self.assertEqual(self.run_on(LINE, "FILE", "--table", "TABLE", "--formula", "x ~ y")[0], 1)
-        self.assertEqual(self.run_on(LINE, "FILE", "--table", "TABLE", "--formula", "y ~ x:x")[0], 3)
-        status, (last,), _ = self.run_on(LINE, "FILE")
-        self.assertEqual((status, last[:18]), (0, "So no coefficients"))
+    def run_on(self, text, *words):
+        done = subprocess.run([sys.executable, HERE / "quantreg_table.py", *words], input=text.encode(), capture_output=True, check=False)
+        return done.returncode, done.stdout.decode(), done.stderr.decode()
 
-    def test_a_certificate_that_is_rejected_stays_so(self):
-        status, (last,), _ = self.run_on(changed(LINE, "segments/0/coef/1", "2"), "--table", "TABLE", "FILE")
-        self.assertEqual((status, last[:17]), (1, "Condition 7 says "))
+    def test_a_report_on_standard_input_and_in_a_file(self):
+        self.assertEqual(self.run_on(RANKS, "--csv", "--digits", "1"), (0, "record,score\n1,-0.2\n2,0.3\n3,-0.1\n", ""))
+        self.assertEqual(self.run_on(RANKS), (0, "record     score\n     1  -0.20000\n     2   0.30000\n     3  -0.10000\n", ""))
+        self.assertEqual(self.run_on("", "/nowhere/report")[:2], (1, ""))
 
-    def test_words_that_it_does_not_take(self):
-        for words in (["--tables", "TABLE"], ["--formula", "y ~ x", "FILE"], ["--table", "TABLE", "--weights", "w", "FILE"], ["--table"]):
-            status, said, told = self.run_on(LINE, *words)
-            self.assertEqual((status, said), (2, []))
-            self.assertIn("usage: ", told)
+    def test_a_statistic_of_thousands_of_digits(self):
+        text = TEST.replace("18/7", f"{'9' * 6000}/{'3' * 6000}")
+        self.assertEqual(self.run_on(text, "--csv", "--part", "statistic", "--digits", "2"), (0, "statistic\n3.00\n", ""))
 
-    def test_it_stands_on_the_standard_library_alone(self):
+    def test_other_inputs_and_words(self):
+        self.assertEqual(self.run_on(""), (1, "", "quantreg-table: no report: it is empty\n"))
+        for words in (["--digits", "-1"], ["--digits", "1.5"], ["--digits", "10001"], ["--di", "3"], ["--table"], ["a", "b"]):
+            status, said, told = self.run_on(RANKS, *words)
+            self.assertEqual((status, said), (2, ""), words)
+            self.assertIn("usage: quantreg-table", told)
+
+    def test_the_man_page_has_its_options_and_parts(self):
+        page = (HERE.parent / "docs/quantreg-table.1").read_text().replace("\\-", "-")
+        told = self.run_on("", "--help")[1]
+        self.assertEqual(set(re.findall(r"--\w+", page)) - {"--formula", "--lo", "--hi"}, set(re.findall(r"--\w+", told.split("options:")[1])) - {"--help"})
+        parts = {it.name for report in (INTERVALS, CERTIFICATE, RANKS, TEST, PREDICT, PATH, SAMPLE, CHECK) for it in quantreg_table.parts_of(report)}
+        self.assertEqual(set(re.findall(r"\\fB(\w+)\\fR", page)), parts)
+
+    def test_names_in_other_alphabets(self):
+        status, said, _ = self.run_on(TEST.replace("column 2 x", "column 2 größe"), "--csv", "--part", "scores", "--digits", "0")
+        self.assertEqual((status, said), (0, "column,score\ngröße,1\n"))
+
+    def test_it_stands_on_the_standard_library_and_the_checker_alone(self):
         tree = ast.parse((HERE / "quantreg_table.py").read_text())
-        imports = [ast.unparse(it) for it in ast.walk(tree) if isinstance(it, (ast.Import, ast.ImportFrom))]
-        self.assertEqual(imports, ["import argparse", "import csv", "import io", "import re", "from fractions import Fraction"])
+        found = {name.name for it in ast.walk(tree) if isinstance(it, ast.Import) for name in it.names}
+        found |= {it.module for it in ast.walk(tree) if isinstance(it, ast.ImportFrom)}
+        self.assertLessEqual(found, set(sys.stdlib_module_names) | {"quantreg_check"})
+
+
+def long_division(text, digits):
+    """A fraction as a decimal, digit by digit."""
+    if text in ("Inf", "-Inf"):
+        return text
+    over, _, under = text.lstrip("-").partition("/")
+    rest, under, places = int(over), int(under or 1), []
+    whole, rest = rest // under, rest % under
+    for _ in range(digits):
+        places.append(10 * rest // under)
+        rest = 10 * rest % under
+    shown = int(str(whole) + "".join(map(str, places)))
+    shown += 2 * rest > under or (2 * rest == under and shown % 2)
+    padded = str(shown).rjust(digits + 1, "0")
+    sign = "-" if text.startswith("-") and shown else ""
+    return f"{sign}{padded[:-digits]}.{padded[-digits:]}"
 
 
 @unittest.skipUnless(os.environ.get("QUANTREG"), "the variable QUANTREG names no program")
-class Certificates(unittest.TestCase):
-    """What the program certifies, beside the table that it read and beside changed ones."""
+class Jobs(unittest.TestCase):
+    """What the program prints on each job, and the words of its lines with each fraction divided out."""
 
-    def certificate_of(self, table, *words):
-        job = [os.environ["QUANTREG"], "certify", "--lo", "1/2", "--hi", "1/2", *words]
-        return json.loads(subprocess.run(job, input=table, capture_output=True, check=True).stdout)
+    DIGITS = 7
+    LINE = b"y,x\n0,0\n2,1\n3,3\n"
 
-    def test_the_table_and_a_changed_one(self):
-        table = (EXAMPLES / "stackloss.csv").read_bytes()
-        cert = self.certificate_of(table, "--formula", "stack.loss ~ .")
-        for formula in ("stack.loss ~ .", None):
-            self.assertEqual(answer(cert, table, formula)[0], SAME)
-            self.assertEqual(answer(cert, table.replace(b'"4",62', b'"4",63'), formula)[0], DIFFERENT)
-        self.assertEqual(answer(cert, table, "stack.loss ~ Air.Flow + Acid.Conc. + Water.Temp")[0], DIFFERENT)
+    def report(self, *words, table=None):
+        table = (EXAMPLES / "stackloss.csv").read_bytes() if table is None else table
+        return subprocess.run([os.environ["QUANTREG"], *words], input=table, capture_output=True, check=True).stdout.decode()
 
-    def test_weights_and_records_that_are_left_out(self):
-        table = b"y,x,w\n1,0,1/2\n2,1,0\n,2,1\n4,3,2\n7,4,.5\n6,5,1e1\n"
-        cert = self.certificate_of(table, "--formula", "y ~ x - 1", "--weights", "w")
-        self.assertEqual(answer(cert, table, "y ~ x - 1", "w"), (SAME, "the rows are those of T by y ~ x - 1, 4 of 6 records, weighted by w"))
-        self.assertEqual(answer(cert, table.replace(b"1e1", b"1e2"), "y ~ x - 1", "w")[0], DIFFERENT)
+    def rows(self, report, name):
+        """The rows of a part, as the script prints them."""
+        return list(csv.reader(io.StringIO(table_text(report, self.DIGITS, as_csv=True, name=name))))
 
-    def test_factors_smooths_and_arithmetics(self):
-        table = b"y,x,f\n1,0,a\n2,1,a\n5,2,b\n4,3,b\n7,4,c\n6,5,c\n8,7,c\n"
-        for formula in ("y ~ f", "y ~ x + f", "y ~ 1 + qss(x, 1)", "y ~ x + I(x^2)", "y ~ x + offset(2*x)"):
-            cert = self.certificate_of(table, "--formula", formula)
-            self.assertEqual(answer(cert, table, formula)[0], UNKNOWN, formula)
+    def divided(self, report, pattern, fractions):
+        """The groups of each line that has the form, those of these numbers divided out."""
+        lines = re.findall(pattern, report, re.MULTILINE)
+        return [[long_division(it, self.DIGITS) if at in fractions else it for at, it in enumerate(line)] for line in lines]
+
+    def fits_are_divided(self, report, columns):
+        pattern = r"^segment \d+ (\S+) (\S+)\n" + columns * r"coef \d+ (\S+)\n" + r"loss (\S+) (\S+)$"
+        wanted = self.divided(report, pattern, range(columns + 4))
+        self.assertTrue(wanted)
+        self.assertEqual(self.rows(report, "segments")[1:], wanted)
+        return wanted
+
+    def test_process_and_its_intervals_and_scores(self):
+        words = ("process", "--formula", "stack.loss ~ .", "--lo", "0", "--hi", "1", "--crit", "2.7055", "--rank-at", "1/4,1/2")
+        report = self.report(*words)
+        self.assertEqual(len(self.fits_are_divided(report, 4)), 25)
+        head, *rows = self.rows(report, "intervals")
+        names = ["(Intercept)", "Air.Flow", "Water.Temp", "Acid.Conc."]
+        wanted = self.divided(report, r"^interval (\d) (\S+) (\S+) (\S+)$", {1, 2, 3})
+        self.assertEqual((head, len(rows)), (["column", "tau", "low", "high"], 8))
+        self.assertEqual(rows, [[names[int(column) - 1], *rest] for column, *rest in wanted])
+        # of each segment the scores add up to 21 times 1 minus the quantile, at both ends, for the formula has an intercept
+        for (lo, hi, *_), at in zip(self.rows(report, "segments")[1:], range(25)):
+            scores = self.rows(report, "scores")[1 + 21 * at : 22 + 21 * at]
+            for end, column in ((lo, 3), (hi, 4)):
+                self.assertAlmostEqual(sum(float(row[column]) for row in scores), 21 * (1 - float(end)), places=4)
+
+    def test_a_smooth(self):
+        report = self.report("process", "--formula", "y ~ qss(x, 1/3)", "--lo", "1/4", "--hi", "3/4", table=b"y,x\n0,0\n2,1\n3,3\n1,4\n")
+        self.fits_are_divided(report, 4)
+        self.assertEqual(self.rows(report, "segments")[0][2:6], ["(Intercept)", "qss(x)[1]", "qss(x)[3]", "qss(x)[4]"])
+        self.assertEqual({row[2] for row in self.rows(report, "scores")[1:]}, {"1", "2", "3", "4"})
+
+    def test_ranks(self):
+        report = self.report("ranks", "--formula", "stack.loss ~ .")
+        self.assertEqual(self.rows(report, "scores")[1:], self.divided(report, r"^wilcoxon (\d+) (\S+)$", {1}))
+
+    def test_a_rank_test(self):
+        report = self.report("test", "--formula", "stack.loss ~ .", "--tested", "2,4")
+        names = {"2": "Air.Flow", "4": "Acid.Conc."}
+        wanted = self.divided(report, r"^score (\d) (\S+)$", {1})
+        self.assertEqual(self.rows(report, "scores")[1:], [[names[column], score] for column, score in wanted])
+        statistic = re.search(r"^statistic (\S+)$", report, re.MULTILINE)[1]
+        self.assertEqual(self.rows(report, "statistic")[1:], [[long_division(statistic, self.DIGITS)]])
+
+    def test_predict(self):
+        table = (EXAMPLES / "stackloss.csv").read_bytes().replace(b'"9",58,23,87,15', b'"9",58,23,87,').replace(b'"4",62,24,87,28', b'"4",62,24,87,NA')
+        report = self.report("predict", "--formula", "stack.loss ~ .", "--lo", "0", "--hi", "1", table=table)
+        for name, head in (("steps", "predict"), ("rearranged", "rearranged")):
+            wanted = []
+            for record, steps in re.findall(rf"^{head} (\d+)\n((?:step .*\n)+)", report, re.MULTILINE):
+                wanted += [[record, *it] for it in self.divided(steps, r"^step (\S+) (\S+) (\S+)$", {0, 1, 2})]
+            self.assertEqual({row[0] for row in wanted}, {"4", "9"})
+            self.assertEqual(self.rows(report, name)[1:], wanted)
+
+    def test_a_path(self):
+        self.fits_are_divided(self.report("path", "--formula", "stack.loss ~ .", "--tau", "1/3", "--lo", "1/10", "--hi", "50"), 4)
+
+    def test_a_sample(self):
+        report = self.report("sample", "--number", "1", "--rows", "20", "--columns", "2", "--lo", "1/3", "--hi", "2/3")
+        losses = self.divided(report, r"^loss (\S+) (\S+)$", {0, 1})[0]
+        counts = re.search(r"records (\d+) dropped (\d+)\ncolumns (\d+)\nsegments (\d+)\npivots (\d+)\n", report).groups()
+        self.assertEqual(self.rows(report, "summary")[1:], [[*counts, *losses]])
+
+    def test_a_certificate_and_its_check(self):
+        words = ("--formula", "stack.loss ~ .", "--lo", "1/4", "--hi", "3/4", "--crit", "2.7055", "--rank-at", "1/2")
+        process, certificate = self.report("process", *words), self.report("certify", *words)
+        self.assertEqual(self.rows(certificate, "segments")[1:], self.fits_are_divided(process, 4))
+        self.assertEqual([row[1:] for row in self.rows(certificate, "intervals")], [row[1:] for row in self.rows(process, "intervals")])
+        found = self.report("check", table=certificate.encode())
+        sizes = re.search(r"columns (\d+)\nrows (\d+)\nsegments (\d+)\nintervals (\d+)\n", found).groups()
+        self.assertEqual(self.rows(found, "summary")[1:], [[*sizes, "accepted"]])
+
+    def test_a_line_that_is_fitted_by_hand(self):
+        # up to 3/5 the line through records 1 and 3, and from there on that through 2 and 3
+        report = self.report("process", "--formula", "y ~ x", "--lo", "0", "--hi", "1", table=self.LINE)
+        fits = [["0.0000000", "0.6000000", "0.0000000", "1.0000000"], ["0.6000000", "1.0000000", "1.5000000", "0.5000000"]]
+        self.assertEqual([row[:4] for row in self.rows(report, "segments")[1:]], fits)
 
 
 if __name__ == "__main__":

@@ -29,7 +29,11 @@ TOP = Path(__file__).resolve().parent.parent
 PROGRAM = TOP / "crates/quantreg/out/quantreg"
 PYTHON, R = TOP / "companions/python", TOP / "companions/r"
 MAINTAINER = "the quantreg developers <quantreg@example.invalid>"
-DEB_DOCS = ("README.md", "docs/MANUAL.md", "docs/FROM_R.md", "docs/RELEASE.md")
+SCRIPTS = ("quantreg_check.py", "quantreg_rows.py", "quantreg_table.py")
+COMMANDS = {"quantreg-check": "quantreg_check", "quantreg-table": "quantreg_table"}
+PAGES = ("README.md", "docs/*.md", "companions/python/README.md", "companions/r/README.md", "checker/coq/README.md")
+PICTURES = ("docs/pictures/*.png",)
+LINK = re.compile(r"(?<!!)\[([^\[\]]*)\]\(([^()#]+)(?:#[^()]*)?\)")
 # Debian's package of each library that a program names.
 DEB_LIBRARIES = {"libc.so.6": "libc6", "libm.so.6": "libc6", "libgcc_s.so.1": "libgcc-s1"}
 
@@ -111,11 +115,33 @@ def zipped(data):
     return gzip.compress(data, 9, mtime=0)
 
 
+def files_of(*patterns):
+    """The files of the repository of these names, by their paths."""
+    return {str(it.relative_to(TOP)): it for pattern in patterns for it in sorted(TOP.glob(pattern))}
+
+
+def linked_page(name, packed):
+    """A page whose links all lead to a page or a picture that is packed: of any other the text alone stays."""
+
+    def kept(found):
+        text, target = found[1], found[2]
+        here = os.path.normpath(os.path.join(os.path.dirname(name), target))
+        return found[0] if "://" in target or here in packed else text
+
+    return LINK.sub(kept, text_of(name)).encode()
+
+
+def deb_docs():
+    """The pages of the repository with their pictures and the tables of their examples, in the folders that they have there."""
+    pages, others = files_of(*PAGES), files_of(*PICTURES, "examples/*.csv")
+    packed = pages.keys() | others.keys()
+    return {name: linked_page(name, packed) for name in pages} | {name: it.read_bytes() for name, it in others.items()}
+
+
 def deb_files(release, program):
     """Each file of the Debian package with its mode and its bytes."""
-    plain = {f"usr/share/doc/quantreg/{Path(name).name}": text_of(name).encode() for name in DEB_DOCS}
-    plain |= {f"usr/share/doc/quantreg/examples/{it.name}": it.read_bytes() for it in sorted((TOP / "examples").glob("*.csv"))}
-    plain |= {f"usr/share/quantreg/{name}": (TOP / "checker" / name).read_bytes() for name in ("quantreg_check.py", "quantreg_table.py")}
+    plain = {f"usr/share/doc/quantreg/{name}": data for name, data in deb_docs().items()}
+    plain |= {f"usr/share/quantreg/{name}": (TOP / "checker" / name).read_bytes() for name in SCRIPTS}
     plain |= {f"usr/share/man/man1/{it.name}.gz": zipped(it.read_bytes()) for it in sorted((TOP / "docs").glob("*.1"))}
     plain["usr/share/bash-completion/completions/quantreg"] = (TOP / "companions/bash/quantreg").read_bytes()
     plain["usr/share/doc/quantreg/provenance"] = program.provenance
@@ -124,14 +150,13 @@ def deb_files(release, program):
     lines = "".join(f" {line}\n" if line else " .\n" for line in rest.rstrip("\n").split("\n"))
     plain["usr/share/doc/quantreg/copyright"] = f"{form}Copyright: {head.removeprefix('Copyright (c) ')}\nLicense: Expat\n{lines}".encode()
     when = release.time.strftime("%a, %d %b %Y %H:%M:%S +0000")
-    entry = f"quantreg ({release.version}) unstable; urgency=low\n\n  * What changed is in RELEASE.md beside this file.\n\n -- {MAINTAINER}  {when}\n"
+    entry = f"quantreg ({release.version}) unstable; urgency=low\n\n  * What changed is in docs/RELEASE.md beside this file.\n\n -- {MAINTAINER}  {when}\n"
     plain["usr/share/doc/quantreg/changelog.gz"] = zipped(entry.encode())
     plain["usr/share/lintian/overrides/quantreg"] = b"# The program is packed as it was proved and compiled, byte for byte.\nquantreg: unstripped-binary-or-object [usr/bin/quantreg]\n"
-    check = b'#!/bin/sh\nexec python3 -B "$(dirname "$(readlink -f "$0")")/../share/quantreg/quantreg_check.py" "$@"\n'
-    return {name: (0o644, data) for name, data in plain.items()} | {
-        "usr/bin/quantreg": (0o755, program.bytes),
-        "usr/bin/quantreg-check": (0o755, check),
-    }
+    called = {"usr/bin/quantreg": program.bytes}
+    for command, module in COMMANDS.items():
+        called[f"usr/bin/{command}"] = f'#!/bin/sh\nexec python3 -B "$(dirname "$(readlink -f "$0")")/../share/quantreg/{module}.py" "$@"\n'.encode()
+    return {name: (0o644, data) for name, data in plain.items()} | {name: (0o755, data) for name, data in called.items()}
 
 
 def deb_control(release, program, files):
@@ -153,8 +178,10 @@ Description: exact linear quantile regression that anybody can check
  fractions, with no rounding. That its fit is the right one is a theorem about
  its code, proved before the program was built.
  .
- A fit can be written as a certificate, which quantreg-check tests in plain
- Python. The package quantreg.exact of R takes the program from here.
+ quantreg-table prints a report as decimals, and quantreg-check tests a fit
+ that was written as a certificate; both are plain Python. Begin with the man
+ page, by man quantreg: the program itself has no --help. The package
+ quantreg.exact of R takes the program from here.
 """
 
 
@@ -199,10 +226,13 @@ def make_wheel(release, program, out):
     info = f"quantreg_exact-{version}.dist-info"
     files = {f"quantreg_exact/{it.name}": it.read_bytes() for it in sorted((PYTHON / "quantreg_exact").glob("*.py"))}
     files |= {"quantreg_exact/bin/quantreg": program.bytes, "quantreg_exact/provenance.txt": program.provenance}
+    files |= {name: (TOP / "checker" / name).read_bytes() for name in SCRIPTS}
+    files |= {f"quantreg_exact-{version}.data/data/share/man/man1/{it.name}": it.read_bytes() for it in sorted((TOP / "docs").glob("*.1"))}
     files[f"{info}/LICENSE"] = (PYTHON / "LICENSE").read_bytes()
     files[f"{info}/METADATA"] = wheel_metadata(release, version).encode()
     files[f"{info}/WHEEL"] = f"Wheel-Version: 1.0\nGenerator: quantreg\nRoot-Is-Purelib: false\nTag: {tag}\n".encode()
-    files[f"{info}/entry_points.txt"] = b"[console_scripts]\nquantreg = quantreg_exact.program:main\n"
+    scripts = {"quantreg": "quantreg_exact.program", **COMMANDS}
+    files[f"{info}/entry_points.txt"] = "".join(["[console_scripts]\n", *(f"{command} = {module}:main\n" for command, module in scripts.items())]).encode()
     digest = {name: base64.urlsafe_b64encode(hashlib.sha256(data).digest()).rstrip(b"=").decode() for name, data in files.items()}
     rows = [f"{name},sha256={digest[name]},{len(data)}\n" for name, data in files.items()]
     files[f"{info}/RECORD"] = "".join([*rows, f"{info}/RECORD,,\n"]).encode()

@@ -29,7 +29,7 @@ JOBS = {
 
 OVERFLOW = (
     "A number outgrew the program's. Round columns of many digits, as `data.round(2)`, or write decimals as whole numbers of a smaller"
-    " unit; ask for a smaller range, or give a shorter critical value, as 46/17 for 0.1 and 73/19 for 0.05. The page 'When a run ends with"
+    " unit; ask for a smaller range, or give a shorter critical value by `crit=`. The page 'When a run ends with"
     " status 7' of docs/MANUAL.md has more."
 )
 

@@ -5,6 +5,7 @@ from dataclasses import dataclass
 from fractions import Fraction
 
 from .numbers import read_number
+from .sentences import SENTENCES
 
 _LINE = re.compile(r"quantreg: (?P<group>\w+): (?P<name>\w+)(?P<fields>(?: .*)?)", re.DOTALL)
 _FIELD = re.compile(r" (?P<key>\w+)=")
@@ -38,19 +39,20 @@ class QuantregError(RuntimeError):
     """A run of quantreg that ended without a report.
 
     `status` is the exit status, `line` the fault line, and `group`, `name` and `fields` what it says; they are None, None
-    and empty where the run left no such line. `advice` says it by the words and names that were given, where it can.
+    and empty where the run left no such line. `advice` says it by the words and names that were given, where it can, and else in the
+    manual's sentences of the line.
     """
 
     def __init__(self, status: int, text: str, advice: str | None = None):
         self.status = status
         self.line = text.strip("\n")
-        self.advice = advice
         fault = read_fault(self.line)
         self.group = fault.group if fault else None
         self.name = fault.name if fault else None
         self.fields = fault.fields if fault else {}
+        self.advice = advice or SENTENCES.get((self.group, self.name))
         told = f"status {status}: {self.line or 'no line on standard error'}"
-        super().__init__(f"{told}\n{advice}" if advice else told)
+        super().__init__(f"{told}\n{self.advice}" if self.advice else told)
 
     def __reduce__(self):
         return type(self), (self.status, self.line, self.advice)

@@ -131,9 +131,15 @@ class Others(unittest.TestCase):
         page = (Path(__file__).resolve().parents[3] / "docs/MANUAL.md").read_text()
         self.assertTrue("\n## When a run ends with status 7\n" in page, "the page is named as the advice says")
 
-    def test_a_line_that_needs_no_words_has_none(self):
-        fault = refused("quantreg: sink: SinkFault", 4, lambda program: fault_of(fit, "y ~ income", TABLE, "1/2", program=program))
-        self.assertEqual((fault.advice, str(fault)), (None, "status 4: quantreg: sink: SinkFault"))
+    def test_a_line_without_names_has_the_manuals_sentences(self):
+        line, page = "quantreg: sink: SinkFault", (Path(__file__).resolve().parents[3] / "docs/MANUAL.md").read_text()
+        fault = refused(line, 4, lambda program: fault_of(fit, "y ~ income", TABLE, "1/2", program=program))
+        self.assertEqual(str(fault), f"status 4: {line}\n{fault.advice}")
+        self.assertIn(f"| `{line}` | {fault.advice.replace('. ', '. | ', 1)} |", page)
+
+    def test_a_run_without_a_line_has_no_advice(self):
+        fault = QuantregError(-9, "")
+        self.assertEqual((fault.advice, str(fault)), (None, "status -9: no line on standard error"))
 
     def test_an_error_may_be_sent_to_another_process(self):
         fault = QuantregError(7, self.LINE, "advice")

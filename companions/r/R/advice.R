@@ -2,7 +2,7 @@
 
 overflow_advice <- paste(
     "A number outgrew the program's. Round columns of many digits, as round(x, 2), or write decimals as whole numbers of a smaller unit;",
-    "ask for a smaller range of quantiles; or give a shorter critical value, as crit = \"46/17\" for 0.1 and \"73/19\" for 0.05."
+    "ask for a smaller range of quantiles; or give a shorter critical value by crit =."
 )
 
 # The question whether a known word was meant, where one is close.
@@ -75,9 +75,10 @@ advice_by_name <- list(
     NothingToPredict = function(fault, model) paste0("A record to predict has NA as its ", deparse1(model$formula[[2]]), " and all other cells that are used.")
 )
 
-# What to say of a fault over a model, or nothing.
+# What to say of a fault over a model: by its names, or what the manual says of the line; nothing where there is no line.
 advice_of <- function(fault, model) {
     maker <- advice_by_name[[fault$name]]
     told <- tryCatch(if (!is.null(maker)) maker(fault, model), error = function(unclear) NULL)
-    c(if (fault$group %in% c("table", "formula", "design")) separator_advice(model$data), told)[1]
+    line <- match(paste0(fault$group, ": ", fault$name), names(fault_sentences), nomatch = 0)
+    utils::head(c(if (fault$group %in% c("table", "formula", "design")) separator_advice(model$data), told, unname(fault_sentences[line])), 1)
 }
