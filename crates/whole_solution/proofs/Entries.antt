@@ -54,7 +54,7 @@ module _ (x middles : List ℤ) (halves : List ℕ) (class k over : ℕ) (inside
           before m (omega (arith, l, other))
 
 -- a row more
-module _ (rows : List WholeRow) (n i : ℕ) (middles : List ℤ) (halves classes : List ℕ) (class : ℕ) (r : WholeRow) (here : i < length rows) (is : r ≡ get_or rows i r) (size : length classes ≡ i)
+module _ (rows : List (WholeRow ℤ)) (n i : ℕ) (middles : List ℤ) (halves classes : List ℕ) (class : ℕ) (r : WholeRow ℤ) (here : i < length rows) (is : r ≡ get_or rows i r) (size : length classes ≡ i)
     (own : AreWithin n middles halves (power class) (whole_at r.x))
     (before : (m : ℕ) → m < i → AreWithin n middles halves (factor_at classes m) ((sample_of_rows n rows).x m)) where
   abbrev AreRow : ℕ → Type 0

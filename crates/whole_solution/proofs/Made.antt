@@ -48,7 +48,7 @@ module _ (n : ℕ) (at : ℕ → ℕ) (row : ℕ) (r : ℤ) (coords : List ℤ) 
   by_own zero z rows l = at_own n at (outside_of row r coords d) (share_none r d zero) (between 0 row z) rows l
 
 -- the side of a row that was read, by the numerators of its residual and of its coordinates
-module _ (n : ℕ) (rows : List WholeRow) (at : ℕ → ℕ) (a : ℕ → ℕ → ℚ) (i : ℕ) (r : WholeRow) (inside : i < length rows) (is : r ≡ get_or rows i r) where
+module _ (n : ℕ) (rows : List (WholeRow ℤ)) (at : ℕ → ℕ) (a : ℕ → ℕ → ℚ) (i : ℕ) (r : WholeRow ℤ) (inside : i < length rows) (is : r ≡ get_or rows i r) where
   pub coords_made : (coords : List ℤ) (d : ℤ) → ((j : ℕ) → j < n → share_at d coords j ≡ coordinate n a (whole_at r.x) j) → (j : ℕ) → j < n → share_at d coords j ≡ coord (sample_of_rows n rows) a i j
   coords_made coords d each j lj =
       each j lj

@@ -33,7 +33,7 @@ difference_whole n a b x y e is_x is_y =
     ap whole e ∙ whole-add a (neg_ℤ b) ∙ ap₂ (λ x y. x +ℚ y) is_x (whole-neg b ∙ ap neg_ℚ is_y) ∙ ring_ℚ (x ∷ y ∷ []) (v0 ⊞ negated v1) (v0 ⊟ v1) refl
 
 -- sides that were read
-pub turned_read : (r : WholeRow) (o o' n n' : Side) (before after : Weights) → o ≡ o' → n ≡ n' → AreTurned r o n before after → AreTurned r o' n' before after
+pub turned_read : (r : WholeRow ℤ) (o o' n n' : Side) (before after : Weights ℤ) → o ≡ o' → n ≡ n' → AreTurned r o n before after → AreTurned r o' n' before after
 turned_read r o o' n n' before after eo en h = subst (λ (s : Side). AreTurned r s n' before after) eo (subst (λ (s : Side). AreTurned r o s before after) en h)
 
 module _ (p : Sample) (old new : ℕ → Side) (part : Part) where
@@ -42,7 +42,7 @@ module _ (p : Sample) (old new : ℕ → Side) (part : Part) where
   gained f n = weighed p new part f n -ℚ weighed p old part f n
 
   -- the totals after the first n rows have changed sides
-  pub record AreMoved (before after : Totals) (n : ℕ) : Type 0 where
+  pub record AreMoved (before after : Totals ℤ) (n : ℕ) : Type 0 where
     pub size : length after.columns ≡ length before.columns
     pub columns : (k : ℕ) → k < length before.columns → whole_at after.columns k ≡ whole_at before.columns k +ℚ gained (λ i. p.x i k) n
     pub response : whole after.response ≡ whole before.response +ℚ gained p.y n
@@ -50,7 +50,7 @@ module _ (p : Sample) (old new : ℕ → Side) (part : Part) where
   none : (b : ℚ) (f : ℕ → ℚ) → b ≡ b +ℚ gained f 0
   none b f = ring_ℚ (b ∷ []) v0 (v0 ⊞ (number (pos 0) ⊟ number (pos 0))) refl
 
-  pub moved_none : (before : Totals) → AreMoved before before 0
+  pub moved_none : (before : Totals ℤ) → AreMoved before before 0
   moved_none before = record { size = refl; columns = λ k lk. none (whole_at before.columns k) (λ i. p.x i k); response = none (whole before.response) p.y }
 
   module _ (i : ℕ) where
@@ -67,7 +67,7 @@ module _ (p : Sample) (old new : ℕ → Side) (part : Part) where
         ∙ ring_ℚ (b ∷ weighed p new part f i ∷ weighed p old part f i ∷ f i ∷ n ∷ o ∷ []) ((v0 ⊞ (v1 ⊟ v2)) ⊞ (v3 ⊠ (v4 ⊟ v5))) (v0 ⊞ ((v1 ⊞ v3 ⊠ v4) ⊟ (v2 ⊞ v3 ⊠ v5))) refl
         ∙ ap₂ (λ x y. b +ℚ (x -ℚ y)) (sym (sum_ℚ-next i (λ i. f i *ℚ bound_part p part i (new i)))) (sym (sum_ℚ-next i (λ i. f i *ℚ bound_part p part i (old i))))
 
-    pub moved_more : (before after next : Totals) (r : WholeRow) → ((k : ℕ) → whole_at r.x k ≡ p.x i k) → whole r.y ≡ p.y i → ((side : Side) → bound_of r part side ≡ bound_part p part i side)
+    pub moved_more : (before after next : Totals ℤ) (r : WholeRow ℤ) → ((k : ℕ) → whole_at r.x k ≡ p.x i k) → whole r.y ≡ p.y i → ((side : Side) → bound_of r part side ≡ bound_part p part i side)
         → AreMoved before after i → AreRaised r (bound_of r part (new i) -ℚ bound_of r part (old i)) after next → AreMoved before next (i + 1)
     moved_more before after next r x y bound m raised =
         let weight = ap₂ (λ n o. n -ℚ o) (bound (new i)) (bound (old i)) in
@@ -83,7 +83,7 @@ module _ (p : Sample) (old new : ℕ → Side) (part : Part) where
         ∙ more b t (f i) (whole (pos 0)) f h refl (sym (ap (λ (side : Side). bound_part p part i side -ℚ o) e ∙ ring_ℚ (o ∷ []) (v0 ⊟ v0) (number (pos 0)) refl))
 
     -- a row that keeps its side
-    pub moved_same : (before after : Totals) → new i ≡ old i → AreMoved before after i → AreMoved before after (i + 1)
+    pub moved_same : (before after : Totals ℤ) → new i ≡ old i → AreMoved before after i → AreMoved before after (i + 1)
     moved_same before after e m =
         record {
           size = m.size;
@@ -95,7 +95,7 @@ module _ (p : Sample) (old new : ℕ → Side) (part : Part) where
   moved b t f before h =
       h ∙ ap (λ b. b +ℚ gained f p.rows) before ∙ ring_ℚ (weighed p old part f p.rows ∷ weighed p new part f p.rows ∷ []) (v0 ⊞ (v1 ⊟ v0)) v1 refl
 
-  pub moved_all : (before after : Totals) → AreTotals p old part before → AreMoved before after p.rows → AreTotals p new part after
+  pub moved_all : (before after : Totals ℤ) → AreTotals p old part before → AreMoved before after p.rows → AreTotals p new part after
   moved_all before after are m =
       record {
         size = m.size ∙ are.size;
@@ -112,7 +112,7 @@ weighed_none p part f n =
     by Constant i = ring_ℚ (f i ∷ []) (v0 ⊠ number (pos 0)) (number (pos 0)) refl
     by Linear i = ring_ℚ (f i ∷ []) (v0 ⊠ number (pos 0)) (number (pos 0)) refl
 
-pub none_weigh : (p : Sample) (part : Part) (t : Totals) → length t.columns ≡ p.columns → ((k : ℕ) → k < p.columns → whole_at t.columns k ≡ whole (pos 0)) → t.response ≡ pos 0 → AreTotals p (λ i. Basic) part t
+pub none_weigh : (p : Sample) (part : Part) (t : Totals ℤ) → length t.columns ≡ p.columns → ((k : ℕ) → k < p.columns → whole_at t.columns k ≡ whole (pos 0)) → t.response ≡ pos 0 → AreTotals p (λ i. Basic) part t
 none_weigh p part t size columns response =
     record {
       size = size;

@@ -19,11 +19,11 @@ use Rattle.loss_model.specs.Sides.{side_in}
 use Rattle.whole_solution.specs.Weighing.{bound_of}
 
 -- a number of a row that was read
-pub row_read : (rows : List WholeRow) (i : ℕ) (r : WholeRow) (f : WholeRow → ℚ) → i < length rows → r ≡ get_or rows i r → of_whole rows f i ≡ f r
-row_read rows i r f l e = ap (λ (o : Option WholeRow). option_map_or f o (whole (pos 0))) (slice_get_read rows (length rows) i r refl l e)
+pub row_read : (rows : List (WholeRow ℤ)) (i : ℕ) (r : WholeRow ℤ) (f : WholeRow ℤ → ℚ) → i < length rows → r ≡ get_or rows i r → of_whole rows f i ≡ f r
+row_read rows i r f l e = ap (λ (o : Option (WholeRow ℤ)). option_map_or f o (whole (pos 0))) (slice_get_read rows (length rows) i r refl l e)
 
 -- the product of a row that was read, and a column
-pub product_of_row : (rows : List WholeRow) (i : ℕ) (r : WholeRow) (column : List ℤ) (x d : ℤ) → i < length rows → r ≡ get_or rows i r → length r.x ≡ length column
+pub product_of_row : (rows : List (WholeRow ℤ)) (i : ℕ) (r : WholeRow ℤ) (column : List ℤ) (x d : ℤ) → i < length rows → r ≡ get_or rows i r → length r.x ≡ length column
     → share x d ≡ sum_ℚ (length r.x) (λ k. whole_at r.x k *ℚ share_at d column k)
     → share x d ≡ sum_ℚ (length column) (λ k. of_whole rows (λ r. whole_at r.x k) i *ℚ share_at d column k)
 product_of_row rows i r column x d l e wide h =
@@ -32,7 +32,7 @@ product_of_row rows i r column x d l e wide h =
     (λ k lk. ap (λ z. z *ℚ share_at d column k) (sym (row_read rows i r (λ r. whole_at r.x k) l e)))
 
 -- a part of the bound of a row that was read
-pub bound_read : (n : ℕ) (rows : List WholeRow) (i : ℕ) (r : WholeRow) (part : Part) (side : Side) → i < length rows → r ≡ get_or rows i r → bound_of r part side ≡ bound_part (sample_of_rows n rows) part i side
+pub bound_read : (n : ℕ) (rows : List (WholeRow ℤ)) (i : ℕ) (r : WholeRow ℤ) (part : Part) (side : Side) → i < length rows → r ≡ get_or rows i r → bound_of r part side ≡ bound_part (sample_of_rows n rows) part i side
 bound_read n rows i r Constant Up l e = sym (row_read rows i r (λ r. whole r.up0) l e)
 bound_read n rows i r Constant Down l e = ap neg_ℚ (sym (row_read rows i r (λ r. whole r.down0) l e))
 bound_read n rows i r Constant Basic l e = refl

@@ -1,5 +1,5 @@
 -- What all rows weigh, and what balances it.
-use Rattle.std.specs.Prelude.{◌≡◌, ℕ, ◌<◌}
+use Rattle.std.specs.Prelude.{◌≡◌, ℕ, ℤ, ◌<◌}
 use Rattle.std.proofs.Common.{ap, ◌∙◌}
 use Rattle.rational_laws.specs.Rational.{ℚ, ◌-ℚ◌, ◌*ℚ◌, neg_ℚ}
 use Rattle.rational_laws.proofs.RationalSumLaws.{sum_ℚ-same}
@@ -17,7 +17,7 @@ weighed-same : (p : Sample) (o o' : ℕ → Side) (part : Part) (f : ℕ → ℚ
 weighed-same p o o' part f n h =
     sum_ℚ-same n (λ i. f i *ℚ bound_part p part i (o i)) (λ i. f i *ℚ bound_part p part i (o' i)) (λ i li. ap (λ (side : Side). f i *ℚ bound_part p part i side) (h i li))
 
-totals-same : (p : Sample) (o o' : ℕ → Side) (part : Part) (t : Totals) → ((i : ℕ) → i < p.rows → o i ≡ o' i) → AreTotals p o part t → AreTotals p o' part t
+totals-same : (p : Sample) (o o' : ℕ → Side) (part : Part) (t : Totals ℤ) → ((i : ℕ) → i < p.rows → o i ≡ o' i) → AreTotals p o part t → AreTotals p o' part t
 totals-same p o o' part t h are =
     record {
       size = are.size;
@@ -25,11 +25,11 @@ totals-same p o o' part t h are =
       response = are.response ∙ weighed-same p o o' part p.y p.rows h;
     }
 
-pub weights-same : (p : Sample) (o o' : ℕ → Side) (w : Weights) → ((i : ℕ) → i < p.rows → o i ≡ o' i) → AreWeights p o w → AreWeights p o' w
+pub weights-same : (p : Sample) (o o' : ℕ → Side) (w : Weights ℤ) → ((i : ℕ) → i < p.rows → o i ≡ o' i) → AreWeights p o w → AreWeights p o' w
 weights-same p o o' w h are = record { constant = totals-same p o o' _ w.constant h are.constant; linear = totals-same p o o' _ w.linear h are.linear }
 
 -- what balances the totals of rows on their sides are the basic dual values
-pub duals_from : (p : Sample) (at : ℕ → ℕ) (a : ℕ → ℕ → ℚ) (o : ℕ → Side) (part : Part) (t : Totals) → ((i : ℕ) → i < p.rows → o i ≡ side_at p at a i) → AreTotals p o part t
+pub duals_from : (p : Sample) (at : ℕ → ℕ) (a : ℕ → ℕ → ℚ) (o : ℕ → Side) (part : Part) (t : Totals ℤ) → ((i : ℕ) → i < p.rows → o i ≡ side_at p at a i) → AreTotals p o part t
     → (j : ℕ) → balancing p.columns a (whole_at t.columns) j ≡ basic_dual p at a part j
 duals_from p at a o part t h are j =
     sum_ℚ-same p.columns (λ k. neg_ℚ (whole_at t.columns k) *ℚ a k j) (λ k. neg_ℚ (nonbasic_total p (side_at p at a) part k) *ℚ a k j)

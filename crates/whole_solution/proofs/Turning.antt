@@ -1,5 +1,5 @@
 -- What rows weigh after one of them was put on a side.
-use Rattle.std.specs.Prelude.{◌≡◌, ◌≢◌, ℕ, zero, suc, ◌+◌, ◌-◌, ◌<◌, ◌≤◌, Bool, true, false, ◌==◌, List, length, slice_set}
+use Rattle.std.specs.Prelude.{◌≡◌, ◌≢◌, ℕ, ℤ, zero, suc, ◌+◌, ◌-◌, ◌<◌, ◌≤◌, Bool, true, false, ◌==◌, List, length, slice_set}
 use Rattle.std.proofs.Common.{arith, refl, sym, subst, ◌∙◌}
 use borrow.Author.Tests.{eqb-true, eqb-false}
 use Rattle.rational_laws.specs.Rational.{◌-ℚ◌, whole}
@@ -28,7 +28,7 @@ module _ (p : Sample) (sides : List Side) (i : ℕ) (x : Side) where
   keeps : (j : ℕ) → j ≢ i → new j ≡ old j
   keeps j apart = put_other sides i j x apart
 
-  module _ (part : Part) (r : WholeRow) (before after : Totals) where
+  module _ (part : Part) (r : WholeRow ℤ) (before after : Totals ℤ) where
     -- no row before it has moved
     until : (n : ℕ) → n ≤ i → AreMoved p old new part before before n
     until zero l = moved_none p old new part before
@@ -50,7 +50,7 @@ module _ (p : Sample) (sides : List Side) (i : ℕ) (x : Side) where
         moved_all p old new part before after are (subst (λ m. AreMoved p old new part before after m) (omega (arith, li)) (past here (p.rows - (i + 1))))
 
   -- the row has changed its side
-  pub weights_put : (r : WholeRow) (from : Side) (before after : Weights) → length sides ≡ p.rows → i < p.rows → from ≡ old i
+  pub weights_put : (r : WholeRow ℤ) (from : Side) (before after : Weights ℤ) → length sides ≡ p.rows → i < p.rows → from ≡ old i
       → ((k : ℕ) → whole_at r.x k ≡ p.x i k) → whole r.y ≡ p.y i → ((part : Part) (side : Side) → bound_of r part side ≡ bound_part p part i side)
       → AreTurned r from x before after → AreWeights p old before → AreWeights p new after
   weights_put r from before after size li was xs y bound turned are =
@@ -61,7 +61,7 @@ module _ (p : Sample) (sides : List Side) (i : ℕ) (x : Side) where
       }
 
   -- the row keeps its side
-  pub weights_kept : (w : Weights) → length sides ≡ p.rows → i < p.rows → x ≡ old i → AreWeights p old w → AreWeights p new w
+  pub weights_kept : (w : Weights ℤ) → length sides ≡ p.rows → i < p.rows → x ≡ old i → AreWeights p old w → AreWeights p new w
   weights_kept w size li was are = weights-same p old new w (λ j lj. by j (j == i) refl) are
     where
       by : (j : ℕ) (t : Bool) → (j == i) ≡ t → old j ≡ new j

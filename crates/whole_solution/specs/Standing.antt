@@ -9,7 +9,7 @@ use Rattle.loss_model.specs.Sides.{side_in}
 use Rattle.basis_model.specs.declared.part.Part.TheVariants.{Constant, Linear}
 use Rattle.basis_model.specs.Basis.{coefficient, side_at, basic_dual}
 use Rattle.whole_inverse.specs.Shares.{share, share_at}
-use Rattle.whole_inverse.specs.Squares.{IsWholeSquare}
+use Rattle.whole_inverse.specs.Squares.{WholeSquare, IsWholeSquare}
 use Rattle.whole_solution.specs.declared.basis.WholeBasis.{WholeBasis}
 use Rattle.whole_solution.specs.declared.solution.WholeSolution.{WholeSolution}
 use Rattle.whole_solution.specs.declared.solution.DualNumbers.{DualNumbers}
@@ -20,7 +20,7 @@ use Rattle.whole_solution.specs.Weighing.{AreWeights}
 use Rattle.whole_solution.specs.Far.{AreOthersFar, IsNear}
 
 -- different rows, one to each position of an inverse of this size, of which each has as many entries, within the limit
-pub record IsWholeBasis (b : WholeBasis) : Type 0 where
+pub record IsWholeBasis (b : WholeBasis ℤ WholeSquare) : Type 0 where
   pub size : length b.basis.now.rows ≡ length b.inverse.now.columns
   pub shape : IsWholeSquare b.inverse.now
   pub few : length b.rows.now < 2 ^ 32

@@ -1,13 +1,12 @@
 //! A basis of rows in whole numbers.
 use loss_model::Basis;
-use whole_inverse::WholeInverse;
 use whole_rows::WholeRow;
 
 /// A basis of rows in whole numbers, with its inverse.
-#[derive(Clone, Copy)]
-pub struct WholeBasis<'a> {
-    pub rows: &'a [WholeRow],
+#[derive_where(Clone, Copy)]
+pub struct WholeBasis<'a, N, I> {
+    pub rows: &'a [WholeRow<N>],
     pub basis: &'a Basis,
-    pub inverse: &'a WholeInverse,
+    pub inverse: &'a I,
     pub limit: u64,
 }

@@ -19,7 +19,7 @@ fn negation(n: i64) -> Result<i64, Obstacle>
 }
 
 /// A part of the dual value of a row on a side.
-pub fn bound(chosen: &WholeRow, side: Side, part: Part) -> Result<i64, Obstacle>
+pub fn bound(chosen: &WholeRow<i64>, side: Side, part: Part) -> Result<i64, Obstacle>
     ensures { IfOk result (λ b. whole b ≡ bound_of chosen.now part side) }
 {
     match (side, part) {

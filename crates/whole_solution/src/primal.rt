@@ -34,7 +34,7 @@ fn column_of(alloc: Global, inverse: &WholeInverse, k: u32, n: u32) -> Result<Li
 }
 
 /// The responses of the rows of a basis.
-fn responses(alloc: Global, rows: &[WholeRow], basis: &[u32]) -> Result<List<i128>, Obstacle>
+fn responses(alloc: Global, rows: &[WholeRow<i64>], basis: &[u32]) -> Result<List<i128>, Obstacle>
     requires { All (λ b. b < length rows.now) basis.now }
     ensures size { IfOk result (λ made. length made ≡ length basis.now) }
     ensures each { IfOk result (λ made. (j : ℕ) → j < length basis.now → whole_at made j ≡ of_whole rows.now (λ r. whole r.y) (slice_index basis.now j)) }
@@ -102,7 +102,7 @@ fn coefficient_of(
 pub fn coefficients(
     alloc: Global,
     inverse: &WholeInverse,
-    rows: &[WholeRow],
+    rows: &[WholeRow<i64>],
     basis: &Basis,
     n: u32,
 ) -> Result<List<i128>, Obstacle>
@@ -205,7 +205,7 @@ pub fn residual_of(y: i64, fit: i128, determinant: i128) -> Result<i128, Obstacl
 /// The numerators of the residuals of all rows, from those of their fits.
 pub fn residuals(
     alloc: Global,
-    rows: &[WholeRow],
+    rows: &[WholeRow<i64>],
     fits: &[i128],
     determinant: i128,
 ) -> Result<List<i128>, Obstacle>

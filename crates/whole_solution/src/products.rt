@@ -17,7 +17,7 @@ use whole_rows::WholeRow;
 /// The numerators of the products, one row at a time; where `NARROW`, of a column whose products are known to have 63 bits alone.
 fn products_by<const NARROW: bool>(
     alloc: Global,
-    rows: &[WholeRow],
+    rows: &[WholeRow<i64>],
     column: &Column,
 ) -> Result<List<i128>, Obstacle>
     requires column { IsColumn column.now.numbers.now column.now.limit column.now }
@@ -41,7 +41,7 @@ fn products_by<const NARROW: bool>(
 /// The same, by halves of the numerators, where these have room.
 fn products_by_halves(
     alloc: Global,
-    rows: &[WholeRow],
+    rows: &[WholeRow<i64>],
     column: &[i128],
     limit: u64,
 ) -> Result<List<i128>, Obstacle>
@@ -63,7 +63,7 @@ fn products_by_halves(
 /// the products are wider than 63 bits and halves have room.
 pub fn row_products(
     alloc: Global,
-    rows: &[WholeRow],
+    rows: &[WholeRow<i64>],
     column: &[i128],
     limit: u64,
 ) -> Result<List<i128>, Obstacle>

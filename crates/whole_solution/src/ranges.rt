@@ -31,7 +31,7 @@ struct Range {
 }
 
 /// The range of all entries of a column.
-fn whole_range(rows: &[WholeRow], k: u32, columns: u32) -> Range
+fn whole_range(rows: &[WholeRow<i64>], k: u32, columns: u32) -> Range
     requires column { k < columns }
     requires wide { All (λ r. length r.x ≡ columns) rows.now }
 {
@@ -52,7 +52,12 @@ fn whole_range(rows: &[WholeRow], k: u32, columns: u32) -> Range
 const SAMPLE: usize = 128;
 
 /// Every so many entries of a column.
-fn sample_of(alloc: Global, rows: &[WholeRow], k: u32, columns: u32) -> Result<Vec<i64>, Obstacle>
+fn sample_of(
+    alloc: Global,
+    rows: &[WholeRow<i64>],
+    k: u32,
+    columns: u32,
+) -> Result<Vec<i64>, Obstacle>
     requires column { k < columns }
     requires wide { All (λ r. length r.x ≡ columns) rows.now }
 {
@@ -101,7 +106,7 @@ fn range_of_most(numbers: Vec<i64>) -> Result<Range, Obstacle> {
 
 /// A range for a column: that of all entries, or that of most where others are far outside it. Any range is lawful: of these each row
 /// has a class.
-fn range_of(alloc: Global, rows: &[WholeRow], k: u32, columns: u32) -> Result<Range, Obstacle>
+fn range_of(alloc: Global, rows: &[WholeRow<i64>], k: u32, columns: u32) -> Result<Range, Obstacle>
     requires column { k < columns }
     requires wide { All (λ r. length r.x ≡ columns) rows.now }
 {
@@ -126,7 +131,7 @@ fn rounded_up(n: u64, class: u8) -> u64
 }
 
 /// Whether the entries of a row are within the ranges, times 2 to the power of a class.
-fn is_in_class(row: &WholeRow, middles: &[i64], halves: &[u64], class: u8) -> bool
+fn is_in_class(row: &WholeRow<i64>, middles: &[i64], halves: &[u64], class: u8) -> bool
     requires middles { length middles.now ≡ length row.now.x }
     requires halves { length halves.now ≡ length row.now.x }
     requires class { class < 64 }
@@ -146,7 +151,7 @@ fn is_in_class(row: &WholeRow, middles: &[i64], halves: &[u64], class: u8) -> bo
 const CLASSES: u8 = 64;
 
 /// The least class of a row.
-fn class_of(row: &WholeRow, middles: &[i64], halves: &[u64]) -> Result<u8, Obstacle>
+fn class_of(row: &WholeRow<i64>, middles: &[i64], halves: &[u64]) -> Result<u8, Obstacle>
     requires middles { length middles.now ≡ length row.now.x }
     requires halves { length halves.now ≡ length row.now.x }
     ensures { IfOk result (λ class. AreWithin (length row.now.x) middles.now halves.now (power class) (whole_at row.now.x)) }
@@ -162,7 +167,7 @@ fn class_of(row: &WholeRow, middles: &[i64], halves: &[u64]) -> Result<u8, Obsta
 /// The classes of all rows.
 fn classes_of(
     alloc: Global,
-    rows: &[WholeRow],
+    rows: &[WholeRow<i64>],
     middles: &[i64],
     halves: &[u64],
 ) -> Result<List<u8>, Obstacle>
@@ -182,7 +187,11 @@ fn classes_of(
 
 impl Ranges {
     /// The ranges of the columns of these rows.
-    pub(crate) fn of(alloc: Global, rows: &[WholeRow], columns: u32) -> Result<Ranges, Obstacle>
+    pub(crate) fn of(
+        alloc: Global,
+        rows: &[WholeRow<i64>],
+        columns: u32,
+    ) -> Result<Ranges, Obstacle>
         requires { All (λ r. length r.x ≡ columns) rows.now }
         ensures { IfOk result (AreRanges (sample_of_rows columns rows.now)) }
     {

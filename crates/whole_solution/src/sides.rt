@@ -17,7 +17,7 @@ use crate::signs::{perturbed_sign, side_of_number};
 use frac_core::List;
 use loss_model::Side;
 use std::alloc::Global;
-use whole_inverse::{Obstacle, room_for};
+use whole_inverse::{Obstacle, WholeInverse, room_for};
 
 /// Whether a list of rows holds one.
 pub fn is_held(basis: &[u32], row: u32) -> bool
@@ -46,7 +46,7 @@ pub fn basic_sides(alloc: Global, rows: usize) -> Result<List<Side>, Obstacle>
     Ok(made)
 }
 
-impl<'a> WholeBasis<'a> {
+impl<'a> WholeBasis<'a, i64, WholeInverse> {
     /// The side of a row outside the basis. Where its residual is 0, all its coordinates are looked at.
     fn outside_side(&self, row: u32, number: i128) -> Result<Side, Obstacle>
         requires basis { IsWholeBasis self.now }

@@ -26,7 +26,7 @@ use crate::totals::{Turn, Weights};
 use frac_core::List;
 use loss_model::Side;
 use std::alloc::Global;
-use whole_inverse::Obstacle;
+use whole_inverse::{Obstacle, WholeInverse};
 
 /// What stands at a basis: the coefficients by column, the sides by row, the rows near the fit, what the rows weigh on their
 /// sides, and the two parts of the dual values by position, which at theta are `constant + linear * theta`. Numbers are
@@ -36,7 +36,7 @@ pub struct WholeSolution {
     pub coef: List<i128>,
     pub sides: List<Side>,
     pub near: Near,
-    pub weights: Weights,
+    pub weights: Weights<i128>,
     pub residuals: Option<List<i128>>,
     pub constant: List<i128>,
     pub linear: List<i128>,
@@ -48,7 +48,7 @@ pub struct Sided {
     pub coef: List<i128>,
     pub sides: List<Side>,
     pub near: Near,
-    pub weights: Weights,
+    pub weights: Weights<i128>,
     pub residuals: Option<List<i128>>,
 }
 
@@ -63,7 +63,7 @@ struct DualNumbers {
 #[derive(Drop)]
 pub struct Turned {
     pub sides: List<Side>,
-    pub weights: Weights,
+    pub weights: Weights<i128>,
 }
 
 /// The rows near the fit, and the residuals of all rows where these were made to choose them.
@@ -80,7 +80,7 @@ pub struct Joint {
     pub left: u32,
 }
 
-impl<'a> WholeBasis<'a> {
+impl<'a> WholeBasis<'a, i64, WholeInverse> {
     /// The numerators of the coefficients.
     fn coefficients(&self, alloc: Global) -> Result<List<i128>, Obstacle>
         requires basis { IsWholeBasis self.now }
@@ -194,7 +194,7 @@ impl<'a> WholeBasis<'a> {
         coef: List<i128>,
         ranges: Ranges,
         old: &[Side],
-        before: &Weights,
+        before: &Weights<i128>,
     ) -> Result<Sided, Obstacle>
         requires basis { IsWholeBasis self.now }
         requires size { length coef ≡ length self.now.inverse.now.columns }
@@ -249,7 +249,7 @@ impl<'a> WholeBasis<'a> {
         alloc: Global,
         coef: &[i128],
         old: &[Side],
-        before: &Weights,
+        before: &Weights<i128>,
         listed: &[u32],
     ) -> Result<Turned, Obstacle>
         requires basis { IsWholeBasis self.now }
@@ -448,7 +448,7 @@ impl<'a> WholeBasis<'a> {
         let coef = self.coefficients(alloc)?;
         let ranges = Ranges::of(alloc, self.rows, n)?;
         let uncounted = basic_sides(alloc, self.rows.len())?;
-        let weights = Weights::none(alloc, n)?;
+        let weights = Weights::<i128>::none(alloc, n)?;
         let sided = self.sided(alloc, coef, ranges, uncounted.as_slice(), &weights)?;
         let solution = self.standing(alloc, sided)?;
         Ok(solution)

@@ -25,16 +25,16 @@ use wide_int::{Wide, wide_sum};
 /// What all rows weigh on their sides by a part of their bounds: the totals of their entries in each column, and that of
 /// their responses.
 #[derive(Drop)]
-pub struct Totals {
-    pub columns: List<i128>,
-    pub response: i128,
+pub struct Totals<N> {
+    pub columns: List<N>,
+    pub response: N,
 }
 
 /// The same by both parts of their bounds.
 #[derive(Drop)]
-pub struct Weights {
-    pub constant: Totals,
-    pub linear: Totals,
+pub struct Weights<N> {
+    pub constant: Totals<N>,
+    pub linear: Totals<N>,
 }
 
 /// A row's change of sides.
@@ -64,7 +64,7 @@ fn difference(after: i64, before: i64) -> Result<i128, Obstacle>
 }
 
 /// What a row weighs more by a part of its bounds after it has changed sides.
-fn change(chosen: &WholeRow, turn: Turn, part: Part) -> Result<i128, Obstacle>
+fn change(chosen: &WholeRow<i64>, turn: Turn, part: Part) -> Result<i128, Obstacle>
     ensures { IfOk result (λ w. whole w ≡ bound_of chosen.now part turn.to -ℚ bound_of chosen.now part turn.from) }
 {
     let after = bound(chosen, turn.to, part)?;
@@ -102,9 +102,9 @@ fn raise_columns(totals: &mut List<i128>, x: &[i64], weight: i128) -> Result<(),
     Ok(())
 }
 
-impl Totals {
+impl Totals<i128> {
     /// The totals of no row.
-    fn none(alloc: Global, columns: u32) -> Result<Totals, Obstacle>
+    fn none(alloc: Global, columns: u32) -> Result<Totals<i128>, Obstacle>
         ensures size { IfOk result (λ t. length t.columns ≡ columns) }
         ensures columns { IfOk result (λ t. (k : ℕ) → k < columns → whole_at t.columns k ≡ whole (pos 0)) }
         ensures response { IfOk result (λ t. t.response ≡ pos 0) }
@@ -122,7 +122,7 @@ impl Totals {
     }
 
     /// The same totals in lists of their own.
-    fn copy(&self, alloc: Global) -> Result<Totals, Obstacle>
+    fn copy(&self, alloc: Global) -> Result<Totals<i128>, Obstacle>
         ensures { IfOk result (λ t. t ≡ self.now) }
     {
         let columns = List::copy(alloc, self.columns.as_slice())?;
@@ -133,7 +133,7 @@ impl Totals {
     }
 
     /// Adds what a row weighs more after it has changed sides.
-    fn turn(&mut self, chosen: &WholeRow, turn: Turn, part: Part) -> Result<(), Obstacle>
+    fn turn(&mut self, chosen: &WholeRow<i64>, turn: Turn, part: Part) -> Result<(), Obstacle>
         requires { length chosen.now.x ≡ length self.old.columns }
         ensures { OnOk result (AreRaised chosen.now (bound_of chosen.now part turn.to -ℚ bound_of chosen.now part turn.from) self.old self.new) }
     {
@@ -157,7 +157,7 @@ fn rest(total: i128, determinant: i128, xs: &[i128], ys: &[i128]) -> Option<Wide
     Some(number)
 }
 
-impl Totals {
+impl Totals<i128> {
     /// What the rows weigh in the residuals of these coefficients, whose numerators stand over the determinant, as does
     /// its own. This one is not printed: at a quantile, with the other part, it often comes to fewer bits.
     pub fn residual(&self, coef: &[i128], determinant: i128) -> Result<Wide, Obstacle>
@@ -172,18 +172,18 @@ impl Totals {
     }
 }
 
-impl Weights {
+impl Weights<i128> {
     /// The weights of rows none of which is counted.
-    pub fn none(alloc: Global, columns: u32) -> Result<Weights, Obstacle>
-        ensures { IfOk result (λ w. (rows : list Row) → AreWeights (sample_of_rows columns rows) (λ i. Basic) w) }
+    pub fn none(alloc: Global, columns: u32) -> Result<Weights<i128>, Obstacle>
+        ensures { IfOk result (λ w. (rows : list (Row ℤ)) → AreWeights (sample_of_rows columns rows) (λ i. Basic) w) }
     {
-        let constant = Totals::none(alloc, columns)?;
-        let linear = Totals::none(alloc, columns)?;
+        let constant = Totals::<i128>::none(alloc, columns)?;
+        let linear = Totals::<i128>::none(alloc, columns)?;
         Ok(Weights { constant, linear })
     }
 
     /// The same weights in lists of their own.
-    pub(crate) fn copy(&self, alloc: Global) -> Result<Weights, Obstacle>
+    pub(crate) fn copy(&self, alloc: Global) -> Result<Weights<i128>, Obstacle>
         ensures { IfOk result (λ w. w ≡ self.now) }
     {
         let constant = self.constant.copy(alloc)?;
@@ -192,7 +192,7 @@ impl Weights {
     }
 
     /// Adds what a row weighs more after it has changed sides.
-    pub(crate) fn turn(&mut self, chosen: &WholeRow, turn: Turn) -> Result<(), Obstacle>
+    pub(crate) fn turn(&mut self, chosen: &WholeRow<i64>, turn: Turn) -> Result<(), Obstacle>
         requires constant { length chosen.now.x ≡ length self.old.constant.columns }
         requires linear { length chosen.now.x ≡ length self.old.linear.columns }
         ensures { OnOk result (AreTurned chosen.now turn.from turn.to self.old self.new) }
@@ -206,10 +206,10 @@ impl Weights {
     pub fn after(
         &self,
         alloc: Global,
-        rows: &[WholeRow],
+        rows: &[WholeRow<i64>],
         old: &[Side],
         new: &[Side],
-    ) -> Result<Weights, Obstacle>
+    ) -> Result<Weights<i128>, Obstacle>
         requires old { length old.now ≡ length rows.now }
         requires new { length new.now ≡ length rows.now }
         requires wide { All (λ r. length r.x ≡ length self.now.constant.columns) rows.now }
