@@ -84,7 +84,7 @@ far_turned Up far r h = h
 far_turned Down far r h = h
 far_turned Basic far r h = absurd h
 
-module _ (l : Line) (line : IsLine l) where
+module _ (l : Line ℤ WholeSquare) (line : IsLine l) where
   -- the first entry of the ratio, times the size of the coordinate
   entry_times : (i : ℕ) → is_moving l i ≡ true → abs_ℚ (coord (model l) (inverse_at l) i l.position) *ℚ ratio_of l i 0
       ≡ turned (perturbed_side (model l).rows (model l).columns (at_of l) (outside_row (model l) (at_of l) (inverse_at l) i)) (residual_of l i)
@@ -102,7 +102,7 @@ module _ (l : Line) (line : IsLine l) where
       some e = moving_coord l line i moving (none_from (coord (model l) (inverse_at l) i l.position) e)
 
   -- a row of which the first entry is greater comes later
-  first_less : (m : Mover) (i : ℕ) → IsMover l m → ¬ (ratio_of l i 0 ≤ℚ ratio_of l m.row 0) → comes_before l m.row i ≡ true
+  first_less : (m : Mover ℕ) (i : ℕ) → IsMover l m → ¬ (ratio_of l i 0 ≤ℚ ratio_of l m.row 0) → comes_before l m.row i ≡ true
   unfolding comes_before
   first_less m i h greater =
       ap is_lt (lex_cmp-first (suc (model l).rows) 0 (ratio_of l m.row) (ratio_of l i) (omega arith) (λ k lk. absurd (omega (arith, lk)))
@@ -112,7 +112,7 @@ module _ (l : Line) (line : IsLine l) where
   unfolding is_moving
   side_moving i h = side_outside (model l) (at_of l) (inverse_at l) i (mover_outside (model l) (at_of l) (inverse_at l) l.position l.direction i h)
 
-  module _ (m : Mover) (h : IsMover l m) (reach e most : ℕ) (he : 1 ≤ e) (d : ℕ) (over : over_of l ≡ pos d) (less : m.residual * most * e < reach * m.coord * d) where
+  module _ (m : Mover ℕ) (h : IsMover l m) (reach e most : ℕ) (he : 1 ≤ e) (d : ℕ) (over : over_of l ≡ pos d) (less : m.residual * most * e < reach * m.coord * d) where
     later_by : (i class : ℕ) → i < length l.basis.now.rows.now → abs_ℚ (coord (model l) (inverse_at l) i l.position) ≤ℚ (power class *ℚ share (pos most) (over_of l))
         → IsFarOn (side_in l.sides.now i) (power class *ℚ share (pos reach) (pos e)) (residual_of l i) → is_moving l i ≡ true → comes_before l m.row i ≡ true
     later_by i class li small far moving = first_less m i h greater
@@ -170,7 +170,7 @@ module _ (n : NearLine) (near : IsNearLine n) (numbers : List ℤ) (is : slice_g
       made : ℚ
       made = sum_ℚ (length numbers) (λ k. (model n.line).x i k *ℚ share_at (over_of n.line) numbers k)
 
-  pub far_after : (m : Mover) → IsMover n.line m → (most : ℕ) → whole (pos most) ≡ most_of_products (length numbers) n.near.now.ranges (λ k. whole (get_or numbers k (pos 0)))
+  pub far_after : (m : Mover ℕ) → IsMover n.line m → (most : ℕ) → whole (pos most) ≡ most_of_products (length numbers) n.near.now.ranges (λ k. whole (get_or numbers k (pos 0)))
       → m.residual * most * unsigned_abs n.near.now.determinant < n.near.now.reach * m.coord * unsigned_abs (over_of n.line) → AreFarAfter n m.row
   far_after m h most bound less i li far moving =
       let e : n.near.now.determinant ≡ pos (unsigned_abs n.near.now.determinant) = let p = near.near.some in omega (arith, ints, p) in
@@ -180,7 +180,7 @@ module _ (n : NearLine) (near : IsNearLine n) (numbers : List ℤ) (is : slice_g
 
 module _ (n : NearLine) (near : IsNearLine n) where
   -- the first of the near rows that comes before the far ones is the first of all
-  pub first_by_near : (m : Mover) → IsFirstMoverOf n.line (slice_index n.near.now.rows) (length n.near.now.rows) m → AreFarAfter n m.row
+  pub first_by_near : (m : Mover ℕ) → IsFirstMoverOf n.line (slice_index n.near.now.rows) (length n.near.now.rows) m → AreFarAfter n m.row
       → IsFirstMover (model n.line) (at_of n.line) (inverse_at n.line) n.line.position n.line.direction m.row
   first_by_near m first after =
       first_of_all n.line near.line m (record { mover = first.mover; least = λ i li moving other. by i li moving other (near.far i li) })

@@ -1,9 +1,10 @@
 -- The first of the rows that move, row by row.
-use Rattle.std.specs.Prelude.{◌≡◌, ◌≢◌, ◌⊎◌, ℕ, ◌+◌, ◌<◌, Bool, true, false, ◌==◌, length, Option, Some, None, IfSome}
+use Rattle.std.specs.Prelude.{◌≡◌, ◌≢◌, ◌⊎◌, ℕ, ℤ, ◌+◌, ◌<◌, Bool, true, false, ◌==◌, length, Option, Some, None, IfSome}
 use Rattle.std.proofs.Common.{arith, refl, sym, ap, subst, ◌∙◌, inl, inr}
 use borrow.Author.Tests.{eqb-true, eqb-false}
 use Rattle.pivot_model.proofs.Passing.{mover_order, before_trans}
 use Rattle.walk_model.specs.Walks.{IsFirstMover}
+use Rattle.whole_inverse.specs.Squares.{WholeSquare}
 use Rattle.whole_steps.specs.declared.line.Line.{Line}
 use Rattle.whole_steps.specs.declared.line.Mover.{Mover}
 use Rattle.whole_steps.specs.Lines.{model, at_of, inverse_at, IsLine, IsMover, IsBefore, IsEarlierMover, IsJoined, IsFirstMoverOf, IsFirstOf, is_moving, comes_before}
@@ -11,7 +12,7 @@ use Rattle.whole_steps.specs.Lines.{model, at_of, inverse_at, IsLine, IsMover, I
 pub no : true ≡ false → ⊥
 no h = cc
 
-module _ (l : Line) (line : IsLine l) where
+module _ (l : Line ℤ WholeSquare) (line : IsLine l) where
   order : (i k : ℕ) → i < length l.basis.now.rows.now → is_moving l i ≡ true → i ≢ k → (comes_before l i k ≡ true) ⊎ (comes_before l k i ≡ true)
   unfolding is_moving comes_before
   order i k li h differ = mover_order (model l) (at_of l) (inverse_at l) l.position line.basis l.direction i k li h differ
@@ -21,7 +22,7 @@ module _ (l : Line) (line : IsLine l) where
   trans = before_trans (model l) (at_of l) (inverse_at l) l.position
 
   -- of two movers one that doesn't come before the other comes after it
-  pub not_before : (first second : Mover) → IsMover l first → comes_before l second.row first.row ≡ false → IsBefore l first.row second.row
+  pub not_before : (first second : Mover ℕ) → IsMover l first → comes_before l second.row first.row ≡ false → IsBefore l first.row second.row
   not_before first second h not_less other = by (order first.row second.row h.row h.moves (λ e. other (sym e)))
     where
       by : (comes_before l first.row second.row ≡ true) ⊎ (comes_before l second.row first.row ≡ true) → comes_before l first.row second.row ≡ true
@@ -38,7 +39,7 @@ module _ (l : Line) (line : IsLine l) where
 
   module _ (row : ℕ → ℕ) where
     -- one more doesn't move
-    pub still : (n : ℕ) (best : Option Mover) → IsFirstOf l row n best → is_moving l (row n) ≡ false → IsFirstOf l row (n + 1) best
+    pub still : (n : ℕ) (best : Option (Mover ℕ)) → IsFirstOf l row n best → is_moving l (row n) ≡ false → IsFirstOf l row (n + 1) best
     still n None h here = λ k lk. at_last n k (λ k. is_moving l (row k) ≡ false) lk here (h k)
     still n (Some m) h here =
         record {
@@ -47,7 +48,7 @@ module _ (l : Line) (line : IsLine l) where
         }
 
     -- it comes after the first, or doesn't move
-    pub stays : (n : ℕ) (m : Mover) → IsFirstMoverOf l row n m → (is_moving l (row n) ≡ true → comes_before l m.row (row n) ≡ true) → IsFirstMoverOf l row (n + 1) m
+    pub stays : (n : ℕ) (m : Mover ℕ) → IsFirstMoverOf l row n m → (is_moving l (row n) ≡ true → comes_before l m.row (row n) ≡ true) → IsFirstMoverOf l row (n + 1) m
     stays n m h after =
         record {
           mover = h.mover;
@@ -55,7 +56,7 @@ module _ (l : Line) (line : IsLine l) where
         }
 
     -- it is the first that does
-    begins : (n : ℕ) (m : Mover) → IsFirstOf l row n None → IsMover l m → m.row ≡ row n → IsFirstMoverOf l row (n + 1) m
+    begins : (n : ℕ) (m : Mover ℕ) → IsFirstOf l row n None → IsMover l m → m.row ≡ row n → IsFirstMoverOf l row (n + 1) m
     begins n m h mover here =
         record {
           mover = mover;
@@ -63,7 +64,7 @@ module _ (l : Line) (line : IsLine l) where
         }
 
     -- it comes before the first so far, or doesn't
-    one_of_two : (n : ℕ) (first second taken : Mover) → IsFirstMoverOf l row n first → IsMover l second → second.row ≡ row n → IsEarlierMover l first second taken → IsFirstMoverOf l row (n + 1) taken
+    one_of_two : (n : ℕ) (first second taken : Mover ℕ) → IsFirstMoverOf l row n first → IsMover l second → second.row ≡ row n → IsEarlierMover l first second taken → IsFirstMoverOf l row (n + 1) taken
     one_of_two n first second taken h mover here (inl e) =
         subst (IsFirstMoverOf l row (n + 1)) (sym e.0) (record {
           mover = mover;
@@ -80,15 +81,15 @@ module _ (l : Line) (line : IsLine l) where
         })
 
     -- the same, of one mover more than there may be
-    pub joins : (n : ℕ) (best : Option Mover) (second taken : Mover) → IsFirstOf l row n best → IsMover l second → second.row ≡ row n → IsJoined l best second taken → IsFirstMoverOf l row (n + 1) taken
+    pub joins : (n : ℕ) (best : Option (Mover ℕ)) (second taken : Mover ℕ) → IsFirstOf l row n best → IsMover l second → second.row ≡ row n → IsJoined l best second taken → IsFirstMoverOf l row (n + 1) taken
     joins n None second taken h mover here e = subst (IsFirstMoverOf l row (n + 1)) (sym e) (begins n second h mover here)
     joins n (Some first) second taken h mover here e = one_of_two n first second taken h mover here e
 
-    pub some_is : (n : ℕ) (best : Option Mover) → IsFirstOf l row n best → IfSome best (IsMover l)
+    pub some_is : (n : ℕ) (best : Option (Mover ℕ)) → IsFirstOf l row n best → IfSome best (IsMover l)
     some_is n None h = tt
     some_is n (Some m) h = h.mover
 
   -- the first of all enters
-  pub first_of_all : (m : Mover) → IsFirstMoverOf l (λ i. i) (length l.basis.now.rows.now) m → IsFirstMover (model l) (at_of l) (inverse_at l) l.position l.direction m.row
+  pub first_of_all : (m : Mover ℕ) → IsFirstMoverOf l (λ i. i) (length l.basis.now.rows.now) m → IsFirstMover (model l) (at_of l) (inverse_at l) l.position l.direction m.row
   unfolding is_moving comes_before
   first_of_all m h = record { row = h.mover.row; mover = h.mover.moves; least = h.least }

@@ -7,7 +7,7 @@ use Rattle.basis_model.specs.Basis.{coord, coefficient}
 use Rattle.pivot_model.specs.declared.direction.Direction.{Direction}
 use Rattle.pivot_model.specs.Steps.{moves}
 use Rattle.whole_inverse.specs.Shares.{share, share_at}
-use Rattle.whole_inverse.specs.Squares.{inverse_of}
+use Rattle.whole_inverse.specs.Squares.{WholeSquare, inverse_of}
 use Rattle.whole_rows.specs.Wholes.{sample_of_rows}
 use Rattle.whole_solution.specs.declared.basis.WholeBasis.{WholeBasis}
 use Rattle.whole_solution.specs.declared.near.Near.{Near}
@@ -23,25 +23,25 @@ use Rattle.whole_steps.specs.declared.entering.RowNumbers.{RowNumbers}
 use Rattle.whole_steps.specs.Entering.{IsLineOf, AreRowNumbers}
 
 -- a row moves on the line of a position where it moves at the station
-moves_at : WholeBasis → ℕ → Direction → ℕ → Bool
+moves_at : WholeBasis ℤ WholeSquare → ℕ → Direction → ℕ → Bool
 moves_at b j d i = moves (sample_of_rows (length b.inverse.now.columns) b.rows.now) (slice_index b.basis.now.rows) (inverse_of b.inverse.now) j d i
 
-pub moving_is : (s : Station) (j : ℕ) (d : Direction) (l : Line) → IsLineOf s j d l → (i : ℕ) → is_moving l i ≡ moves (model s) (at_of s) (inverse_at s) j d i
+pub moving_is : (s : Station) (j : ℕ) (d : Direction) (l : Line ℤ WholeSquare) → IsLineOf s j d l → (i : ℕ) → is_moving l i ≡ moves (model s) (at_of s) (inverse_at s) j d i
 unfolding is_moving moves_at
 moving_is s j d l h i =
     ap (λ b. moves_at b l.position l.direction i) h.basis ∙ ap (λ k. moves_at s.basis.now k l.direction i) h.position ∙ ap (λ e. moves_at s.basis.now j e i) h.direction
 
 -- what holds of the basis of a line, its position and its direction holds of the station's, and the other way
-pub along : (P : WholeBasis → ℕ → Direction → Type 0) (s : Station) (j : ℕ) (d : Direction) (l : Line) → IsLineOf s j d l → P s.basis.now j d → P l.basis.now l.position l.direction
+pub along : (P : WholeBasis ℤ WholeSquare → ℕ → Direction → Type 0) (s : Station) (j : ℕ) (d : Direction) (l : Line ℤ WholeSquare) → IsLineOf s j d l → P s.basis.now j d → P l.basis.now l.position l.direction
 along P s j d l h x =
     subst (λ b. P b l.position l.direction) (sym h.basis) (subst (λ k. P s.basis.now k l.direction) (sym h.position) (subst (λ e. P s.basis.now j e) (sym h.direction) x))
 
-pub back : (P : WholeBasis → ℕ → Direction → Type 0) (s : Station) (j : ℕ) (d : Direction) (l : Line) → IsLineOf s j d l → P l.basis.now l.position l.direction → P s.basis.now j d
+pub back : (P : WholeBasis ℤ WholeSquare → ℕ → Direction → Type 0) (s : Station) (j : ℕ) (d : Direction) (l : Line ℤ WholeSquare) → IsLineOf s j d l → P l.basis.now l.position l.direction → P s.basis.now j d
 back P s j d l h x =
     subst (λ e. P s.basis.now j e) h.direction (subst (λ k. P s.basis.now k l.direction) h.position (subst (λ b. P b l.position l.direction) h.basis x))
 
 -- the numbers of all rows of a basis at a position
-HasNumbers : WholeBasis → ℕ → List ℤ → List ℤ → Type 0
+HasNumbers : WholeBasis ℤ WholeSquare → ℕ → List ℤ → List ℤ → Type 0
 HasNumbers b j residuals coords =
     let p = sample_of_rows (length b.inverse.now.columns) b.rows.now in
     let a = inverse_of b.inverse.now in
@@ -51,7 +51,7 @@ HasNumbers b j residuals coords =
     × ((i : ℕ) → i < length b.rows.now → share_at b.inverse.now.determinant coords i ≡ coord p a i j)
 
 -- a line with the numbers of all rows of the station
-pub full_line : (s : Station) (j : ℕ) (d : Direction) (numbers : RowNumbers) (f : FullLine) → IsLineOf s j d f.line → AreRowNumbers s j numbers → f.residuals.now ≡ numbers.residuals → f.coords.now ≡ numbers.coords → IsFullLine f
+pub full_line : (s : Station) (j : ℕ) (d : Direction) (numbers : RowNumbers) (f : FullLine ℤ WholeSquare ℤ) → IsLineOf s j d f.line → AreRowNumbers s j numbers → f.residuals.now ≡ numbers.residuals → f.coords.now ≡ numbers.coords → IsFullLine f
 unfolding HasNumbers
 full_line s j d numbers f line are residuals coords =
     let held : HasNumbers s.basis.now j numbers.residuals numbers.coords = (are.size, are.residuals, are.all_coords, are.coords) in
@@ -61,7 +61,7 @@ full_line s j d numbers f line are residuals coords =
     record { line = line.line; size = moved.0; residuals = moved.1; all_coords = moved.2; coords = moved.3 }
 
 -- the coefficients and near rows of a basis with these rows on these sides
-HasNear : WholeBasis → List Side → List ℤ → Near → Type 0
+HasNear : WholeBasis ℤ WholeSquare → List Side → List ℤ → Near → Type 0
 HasNear b sides coef near =
     let p = sample_of_rows (length b.inverse.now.columns) b.rows.now in
     let at = slice_index b.basis.now.rows in

@@ -1,13 +1,14 @@
 -- Rows that may come before a mover.
-use Rattle.std.specs.Prelude.{◌≡◌, ℕ, ◌<◌, Bool, true, false, ◌&&◌, List, get_or, length, IsTrue}
+use Rattle.std.specs.Prelude.{◌≡◌, ℕ, ℤ, ◌<◌, Bool, true, false, ◌&&◌, List, get_or, length, IsTrue}
 use Rattle.std.proofs.Common.{refl, sym, ap₂, ◌∙◌}
 use Rattle.pivot_model.proofs.Passing.{not_before_itself}
+use Rattle.whole_inverse.specs.Squares.{WholeSquare}
 use Rattle.whole_steps.specs.declared.line.Line.{Line}
 use Rattle.whole_steps.specs.Lines.{model, at_of, inverse_at, IsLine, is_moving, comes_before}
 use Rattle.whole_steps.specs.Rivals.{AreMarked}
 use Rattle.whole_steps.proofs.FirstLaws.{no, trans}
 
-module _ (l : Line) (line : IsLine l) where
+module _ (l : Line ℤ WholeSquare) (line : IsLine l) where
   not_itself : (i : ℕ) → comes_before l i i ≡ false
   unfolding comes_before
   not_itself i = not_before_itself (model l) (at_of l) (inverse_at l) l.position i

@@ -22,6 +22,7 @@ use Rattle.whole_inverse.proofs.Lists.{share_read}
 use Rattle.whole_inverse.proofs.Turned.{share-quotient}
 use Rattle.whole_solution.proofs.Numbers.{share_none, share_some}
 use Rattle.loss_model.proofs.Sides.{side_read}
+use Rattle.whole_inverse.specs.Squares.{WholeSquare}
 use Rattle.whole_steps.specs.declared.full_line.FullLine.{FullLine}
 use Rattle.whole_steps.specs.declared.line.Line.{Line}
 use Rattle.whole_steps.specs.declared.line.Mover.{Mover}
@@ -38,11 +39,11 @@ pub nonzero : (d : ℤ) → pos 1 ≤ℤ d → d ≢ pos 0
 nonzero d h e = omega (arith, ints)
 
 -- the side that was read
-pub side_here : (l : Line) → IsLine l → (i : ℕ) → i < length l.basis.now.rows.now → get_or l.sides.now i Up ≡ side_at (model l) (at_of l) (inverse_at l) i
+pub side_here : (l : Line ℤ WholeSquare) → IsLine l → (i : ℕ) → i < length l.basis.now.rows.now → get_or l.sides.now i Up ≡ side_at (model l) (at_of l) (inverse_at l) i
 side_here l line i li = side_read l.sides.now i Up (omega (arith, line.all_sides, li)) ∙ line.sides i li
 
 -- a row by its side, and the numerators of its coordinate and its residual
-module _ (l : Line) (line : IsLine l) (i : ℕ) (li : i < length l.basis.now.rows.now) (side : Side) (c : ℤ)
+module _ (l : Line ℤ WholeSquare) (line : IsLine l) (i : ℕ) (li : i < length l.basis.now.rows.now) (side : Side) (c : ℤ)
     (side_is : side ≡ side_at (model l) (at_of l) (inverse_at l) i) (coord_is : share c (over_of l) ≡ coord (model l) (inverse_at l) i l.position) where
   pub moving_is : is_moving l i ≡ is_towards side (turned_by l.direction (share c (over_of l)))
   unfolding is_moving
@@ -78,7 +79,7 @@ module _ (l : Line) (line : IsLine l) (i : ℕ) (li : i < length l.basis.now.row
         }
 
 -- a row of a line with the numbers of all rows
-module _ (f : FullLine) (full : IsFullLine f) (i : ℕ) (li : i < length f.line.basis.now.rows.now) where
+module _ (f : FullLine ℤ WholeSquare ℤ) (full : IsFullLine f) (i : ℕ) (li : i < length f.line.basis.now.rows.now) where
   coord_read : share (get_or f.coords.now i (pos 0)) (over_of f.line) ≡ coord (model f.line) (inverse_at f.line) i f.line.position
   coord_read = share_read (over_of f.line) f.coords.now i (omega (arith, full.all_coords, li)) ∙ full.coords i li
 
@@ -92,7 +93,7 @@ module _ (f : FullLine) (full : IsFullLine f) (i : ℕ) (li : i < length f.line.
   mover_read = mover_here f.line full.line i li (get_or f.line.sides.now i Up) (get_or f.coords.now i (pos 0)) (side_here f.line full.line i li) coord_read (get_or f.residuals.now i (pos 0)) residual_read
 
 -- a mover with what its entries share
-pub tied_here : (l : Line) → IsLine l → (m : Mover) → IsMover l m → IsTied l (record { row = m.row; side = get_or l.sides.now m.row Up; size = m.coord })
+pub tied_here : (l : Line ℤ WholeSquare) → IsLine l → (m : Mover ℕ) → IsMover l m → IsTied l (record { row = m.row; side = get_or l.sides.now m.row Up; size = m.coord })
 unfolding is_moving
 tied_here l line m h =
     record {

@@ -1,5 +1,5 @@
 -- The parts of a slope.
-use Rattle.std.specs.Prelude.{◌≡◌, ℕ, ◌<◌, List, [], ◌∷◌, length, get_or, pos}
+use Rattle.std.specs.Prelude.{◌≡◌, ℕ, ℤ, ◌<◌, List, [], ◌∷◌, length, get_or, pos}
 use Rattle.std.proofs.Common.{refl, sym, ap, ◌∙◌}
 use Rattle.rational_laws.specs.Solver.{number, negated, ◌⊞◌, ◌⊟◌, v0, v1}
 use Rattle.rational_laws.specs.Rational.{ℚ, ◌+ℚ◌, ◌-ℚ◌, whole}
@@ -19,7 +19,7 @@ use Rattle.whole_steps.specs.Lines.{turned_by}
 use Rattle.whole_steps.specs.Stations.{cost_of, cost_part}
 
 -- the cost of a row that was read
-pub cost_read : (n : ℕ) (rows : List WholeRow) (i : ℕ) (r : WholeRow) (part : Part) (d : Direction) → i < length rows → r ≡ get_or rows i r → cost_of r part d ≡ cost_part (sample_of_rows n rows) part d i
+pub cost_read : (n : ℕ) (rows : List (WholeRow ℤ)) (i : ℕ) (r : WholeRow ℤ) (part : Part) (d : Direction) → i < length rows → r ≡ get_or rows i r → cost_of r part d ≡ cost_part (sample_of_rows n rows) part d i
 cost_read n rows i r Constant Upward l e = sym (row_read rows i r (λ r. whole r.up0) l e)
 cost_read n rows i r Constant Downward l e = sym (row_read rows i r (λ r. whole r.down0) l e)
 cost_read n rows i r Linear Upward l e = sym (row_read rows i r (λ r. whole r.up1) l e)

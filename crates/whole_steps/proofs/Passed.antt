@@ -12,7 +12,7 @@ use Rattle.pivot_model.specs.Duals.{◌<ℚ◌}
 use Rattle.pivot_model.specs.declared.direction.Direction.{Direction}
 use Rattle.pivot_model.specs.Steps.{slope, IsEntering}
 use Rattle.pivot_model.proofs.Passing.{not_before_itself}
-use Rattle.whole_inverse.specs.Squares.{inverse_of}
+use Rattle.whole_inverse.specs.Squares.{WholeSquare, inverse_of}
 use Rattle.whole_inverse.proofs.Lists.{share_read}
 use Rattle.whole_rows.specs.declared.rows.WholeRow.{WholeRow}
 use Rattle.whole_rows.specs.Wholes.{sample_of_rows}
@@ -37,7 +37,7 @@ module _ (d : Descent) (h : IsDescent d) where
   scale_some = scale_positive (over_of (line_of d)) d.theta.under h.full.line.held.shape.positive h.theta
 
   -- the size of the coordinate times the costs at theta
-  pub passing_is : (i : ℕ) (r : WholeRow) (c l w n : ℤ) → i < length (line_of d).basis.now.rows.now → r ≡ get_or (line_of d).basis.now.rows.now i r
+  pub passing_is : (i : ℕ) (r : WholeRow ℤ) (c l w n : ℤ) → i < length (line_of d).basis.now.rows.now → r ≡ get_or (line_of d).basis.now.rows.now i r
       → c ≡ r.up0 +ℤ r.down0 → l ≡ r.up1 +ℤ r.down1 → w ≡ (c *ℤ d.theta.under) +ℤ (l *ℤ d.theta.over) → n ≡ pos (unsigned_abs (get_or d.full.coords.now i (pos 0))) *ℤ w
       → rational (number_value d n) ≡ passing_of d i
   unfolding passing_of
@@ -107,7 +107,7 @@ unfolding Enters
 entering_is d r h = h
 
 -- the slope of a station where its line begins
-pub slope_there : (s : Station) (q : Quantile) (n : ℤ) (j : ℕ) (e : Direction) (l : Line) → IsLineOf s j e l
+pub slope_there : (s : Station) (q : Quantile ℤ) (n : ℤ) (j : ℕ) (e : Direction) (l : Line ℤ WholeSquare) → IsLineOf s j e l
     → rational (number_over (scale_of s q) n) ≡ slope (station_model s) (station_at s) (station_inverse s) (theta_of q) j e
     → rational (number_over (unsigned_abs (over_of l *ℤ q.under)) n) ≡ slope (model l) (at_of l) (inverse_at l) (theta_of q) l.position l.direction
 slope_there s q n j e l h is =
@@ -116,11 +116,11 @@ slope_there s q n j e l h is =
     ≡ slope (sample_of_rows (length b.inverse.now.columns) b.rows.now) (slice_index b.basis.now.rows) (inverse_of b.inverse.now) (theta_of q) k f) s j e l h is
 
 -- the row that enters on the line enters at the station
-pub entering_there : (s : Station) (q : Quantile) (j : ℕ) (e : Direction) (l : Line) → IsLineOf s j e l → (r : ℕ)
+pub entering_there : (s : Station) (q : Quantile ℤ) (j : ℕ) (e : Direction) (l : Line ℤ WholeSquare) → IsLineOf s j e l → (r : ℕ)
     → IsEntering (model l) (at_of l) (inverse_at l) (theta_of q) l.position l.direction r → IsEntering (station_model s) (station_at s) (station_inverse s) (theta_of q) j e r
 entering_there s q j e l h r enters =
     back (λ b k f. IsEntering (sample_of_rows (length b.inverse.now.columns) b.rows.now) (slice_index b.basis.now.rows) (inverse_of b.inverse.now) (theta_of q) k f r) s j e l h enters
 
-pub mover_some : (l : Line) (i : ℕ) (o : Option Mover) → IsMoverAt l i o → IfSome o (λ m. IsMover l m)
+pub mover_some : (l : Line ℤ WholeSquare) (i : ℕ) (o : Option (Mover ℕ)) → IsMoverAt l i o → IfSome o (λ m. IsMover l m)
 mover_some l i None h = tt
 mover_some l i (Some m) h = h.0

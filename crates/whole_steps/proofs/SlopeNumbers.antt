@@ -22,7 +22,7 @@ use Rattle.whole_steps.specs.Quantiles.{IsQuantile, theta_of, number_over}
 use Rattle.whole_steps.specs.Leavings.{scale_of, leaving_of, number_at, IsLesserAt, IsLeavingAt}
 use Rattle.whole_steps.proofs.Scales.{affine_share, scale_positive, share_negative, share_not_negative}
 
-module _ (s : Station) (q : Quantile) (positive : pos 1 ≤ℤ over_of s) (is : IsQuantile q) where
+module _ (s : Station) (q : Quantile ℤ) (positive : pos 1 ≤ℤ over_of s) (is : IsQuantile q) where
   abbrev e : ℕ
   e = scale_of s q
 
@@ -39,7 +39,7 @@ module _ (s : Station) (q : Quantile) (positive : pos 1 ≤ℤ over_of s) (is : 
       ∙ slope_is (model s) (at_of s) (inverse_at s) (theta_of q) j d
 
   -- the lesser one of two
-  pub lesser_by : (j : ℕ) (up down taken : Leaving) → number_at s q j Upward up → number_at s q j Downward down → IsSteeper (number_over (scale_of s q)) (leaving_of up) (leaving_of down) (leaving_of taken) → IsLesserAt s q j taken
+  pub lesser_by : (j : ℕ) (up down taken : Leaving ℤ) → number_at s q j Upward up → number_at s q j Downward down → IsSteeper (number_over (scale_of s q)) (leaving_of up) (leaving_of down) (leaving_of taken) → IsLesserAt s q j taken
   lesser_by j up down taken u d (inl h) =
       subst (IsLesser (number_over (scale_of s q)) (model s) (at_of s) (inverse_at s) (theta_of q) j) (sym h.0)
       (record { position = d.position; is = d.slope ∙ ap (slope (model s) (at_of s) (inverse_at s) (theta_of q) j) (sym d.direction); least = least })
@@ -66,14 +66,14 @@ module _ (s : Station) (q : Quantile) (positive : pos 1 ≤ℤ over_of s) (is : 
           (subst (λ z. z ≤ℚ slope (model s) (at_of s) (inverse_at s) (theta_of q) j Downward) u.slope (subst (λ z. rational (number_over (scale_of s q) up.slope) ≤ℚ z) d.slope h.1))
 
   -- the least of all leaves where it is negative
-  pub leaves_at : (n : ℕ) (l : Leaving) → n ≡ (model s).columns → IsLeast (number_over (scale_of s q)) (model s) (at_of s) (inverse_at s) (theta_of q) n (leaving_of l) → l.slope <ℤ pos 0 → IsLeavingAt s q l
+  pub leaves_at : (n : ℕ) (l : Leaving ℤ) → n ≡ (model s).columns → IsLeast (number_over (scale_of s q)) (model s) (at_of s) (inverse_at s) (theta_of q) n (leaving_of l) → l.slope <ℤ pos 0 → IsLeavingAt s q l
   leaves_at n l all h below =
       let made = leaves (number_over (scale_of s q)) (model s) (at_of s) (inverse_at s) (theta_of q) (leaving_of l)
       (subst (λ n. IsLeast (number_over (scale_of s q)) (model s) (at_of s) (inverse_at s) (theta_of q) n (leaving_of l)) all h)
       (share_negative (scale_of s q) scale_some l.slope below) in
       record { leaving = made.0; slope = made.1 }
 
-  pub none_leaves : (n : ℕ) (l : Leaving) → n ≡ (model s).columns → IsLeast (number_over (scale_of s q)) (model s) (at_of s) (inverse_at s) (theta_of q) n (leaving_of l) → pos 0 ≤ℤ l.slope
+  pub none_leaves : (n : ℕ) (l : Leaving ℤ) → n ≡ (model s).columns → IsLeast (number_over (scale_of s q)) (model s) (at_of s) (inverse_at s) (theta_of q) n (leaving_of l) → pos 0 ≤ℤ l.slope
       → HasNoNegativeSlope (model s) (at_of s) (inverse_at s) (theta_of q)
   none_leaves n l all h up j d lj =
       none_negative (number_over (scale_of s q)) (model s) (at_of s) (inverse_at s) (theta_of q) (leaving_of l) n h (share_not_negative (scale_of s q) scale_some l.slope up) j d (subst (λ n. j < n) (sym all) lj)

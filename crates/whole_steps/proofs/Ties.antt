@@ -28,6 +28,7 @@ use Rattle.rational_laws.specs.Matrices.{coordinate}
 use Rattle.rational_laws.proofs.RationalSumLaws.{sum_ℚ-same}
 use Rattle.rational_laws.proofs.Comparisons.{not_equal, differs}
 use Rattle.whole_inverse.proofs.Turned.{share-quotient}
+use Rattle.whole_inverse.specs.Squares.{WholeSquare}
 use Rattle.whole_solution.proofs.Numbers.{share-neg}
 use Rattle.whole_steps.specs.declared.line.Line.{Line}
 use Rattle.whole_steps.specs.declared.line.Mover.{Mover}
@@ -42,7 +43,7 @@ bool_is false Less h = h.1 refl
 bool_is false Equal h = refl
 bool_is false Greater h = refl
 
-module _ (l : Line) (line : IsLine l) where
+module _ (l : Line ℤ WholeSquare) (line : IsLine l) where
   pub moving_outside : (i : ℕ) → is_moving l i ≡ true → IsOutside (model l).columns (at_of l) i
   unfolding is_moving
   moving_outside i h = is_outside (model l) (at_of l) (inverse_at l) l.position line.basis l.direction i h
@@ -52,7 +53,7 @@ module _ (l : Line) (line : IsLine l) where
   moving_coord i h = mover_some (model l) (at_of l) (inverse_at l) l.position l.direction i h
 
   -- where the cross products differ they decide
-  pub first_decides : (m n : Mover) (o : Ordering) → IsMover l m → IsMover l n → o ≡ nat_cmp (m.residual * n.coord) (n.residual * m.coord) → is_eq o ≡ false → is_lt o ≡ comes_before l m.row n.row
+  pub first_decides : (m n : Mover ℕ) (o : Ordering) → IsMover l m → IsMover l n → o ≡ nat_cmp (m.residual * n.coord) (n.residual * m.coord) → is_eq o ≡ false → is_lt o ≡ comes_before l m.row n.row
   unfolding comes_before
   first_decides m n o h g is differ =
       ap is_lt (is ∙ sym (cross_compare m.residual m.coord n.residual n.coord h.some g.some) ∙ ap₂ cmp_ℚ h.ratio_is g.ratio_is
@@ -62,7 +63,7 @@ module _ (l : Line) (line : IsLine l) where
       ∙ (cmp_ℚ-Equal (share (pos m.residual) (pos m.coord)) (share (pos n.residual) (pos n.coord))).1 (h.ratio_is ∙ e ∙ sym g.ratio_is)))))
 
   -- where they agree, so do the first entries
-  pub first_agrees : (m n : Mover) → IsMover l m → IsMover l n → nat_cmp (m.residual * n.coord) (n.residual * m.coord) ≡ Equal → ratio_of l m.row 0 ≡ ratio_of l n.row 0
+  pub first_agrees : (m n : Mover ℕ) → IsMover l m → IsMover l n → nat_cmp (m.residual * n.coord) (n.residual * m.coord) ≡ Equal → ratio_of l m.row 0 ≡ ratio_of l n.row 0
   first_agrees m n h g e =
       sym h.ratio_is
       ∙ (cmp_ℚ-Equal (share (pos m.residual) (pos m.coord)) (share (pos n.residual) (pos n.coord))).0 (cross_compare m.residual m.coord n.residual n.coord h.some g.some ∙ e)
@@ -89,7 +90,7 @@ module _ (l : Line) (line : IsLine l) where
       on_entry Down x y = ring_ℚ (x ∷ y ∷ []) (v0 ⊠ v1) (negated (negated v0 ⊠ v1)) refl
 
   -- the coordinate of a row that was read
-  pub coordinate_here : (i : ℕ) (r : WholeRow) → i < length l.basis.now.rows.now → r ≡ get_or l.basis.now.rows.now i r → (j : ℕ) → coordinate (model l).columns (inverse_at l) (whole_at r.x) j ≡ coord (model l) (inverse_at l) i j
+  pub coordinate_here : (i : ℕ) (r : WholeRow ℤ) → i < length l.basis.now.rows.now → r ≡ get_or l.basis.now.rows.now i r → (j : ℕ) → coordinate (model l).columns (inverse_at l) (whole_at r.x) j ≡ coord (model l) (inverse_at l) i j
   coordinate_here i r li is j =
       sum_ℚ-same (model l).columns (λ k. whole_at r.x k *ℚ inverse_at l k j) (λ k. of_whole l.basis.now.rows.now (λ w. whole_at w.x k) i *ℚ inverse_at l k j)
       (λ k lk. ap (λ x. x *ℚ inverse_at l k j) (sym (row_read l.basis.now.rows.now i r (λ w. whole_at w.x k) li is)))

@@ -13,42 +13,42 @@ use Rattle.whole_steps.specs.declared.leaving.Leaving.{Leaving}
 use Rattle.whole_steps.specs.Quantiles.{theta_of, number_over}
 
 -- the determinant times the quantile's second part
-abbrev pub scale_of : Station → Quantile → ℕ
+abbrev pub scale_of : Station → Quantile ℤ → ℕ
 scale_of s q = unsigned_abs (over_of s *ℤ q.under)
 
 -- the same as the laws of slopes have it
-abbrev pub leaving_of : Leaving → Slope ℤ
+abbrev pub leaving_of : Leaving ℤ → Slope ℤ
 leaving_of l = record { position = l.position; direction = l.direction; slope = l.slope }
 
 -- the number is the slope of its position in its direction
-abbrev pub number_is : Station → Quantile → Leaving → Type 0
+abbrev pub number_is : Station → Quantile ℤ → Leaving ℤ → Type 0
 number_is s q l = rational (number_over (scale_of s q) l.slope) ≡ slope (model s) (at_of s) (inverse_at s) (theta_of q) l.position l.direction
 
 -- the slope of this position in this direction
-pub record number_at (s : Station) (q : Quantile) (j : ℕ) (d : Direction) (l : Leaving) : Type 0 where
+pub record number_at (s : Station) (q : Quantile ℤ) (j : ℕ) (d : Direction) (l : Leaving ℤ) : Type 0 where
   pub position : l.position ≡ j
   pub direction : l.direction ≡ d
   pub slope : rational (number_over (scale_of s q) l.slope) ≡ slope (model s) (at_of s) (inverse_at s) (theta_of q) j d
 
 -- the lesser one at position j
-abbrev pub IsLesserAt : Station → Quantile → ℕ → Leaving → Type 0
+abbrev pub IsLesserAt : Station → Quantile ℤ → ℕ → Leaving ℤ → Type 0
 IsLesserAt s q j l = IsLesser (number_over (scale_of s q)) (model s) (at_of s) (inverse_at s) (theta_of q) j (leaving_of l)
 
 -- the position leaves in this direction, with its slope
-pub record IsLeavingAt (s : Station) (q : Quantile) (l : Leaving) : Type 0 where
+pub record IsLeavingAt (s : Station) (q : Quantile ℤ) (l : Leaving ℤ) : Type 0 where
   pub leaving : IsLeaving (model s) (at_of s) (inverse_at s) (theta_of q) l.position l.direction
   pub slope : number_is s q l
 
 -- none leaves, or this one
-abbrev pub IsLeavingOrNone : Station → Quantile → Option Leaving → Type 0
+abbrev pub IsLeavingOrNone : Station → Quantile ℤ → Option (Leaving ℤ) → Type 0
 IsLeavingOrNone s q None = HasNoNegativeSlope (model s) (at_of s) (inverse_at s) (theta_of q)
 IsLeavingOrNone s q (Some l) = IsLeavingAt s q l
 
 -- row r enters where it leaves
-abbrev pub IsEnteringAt : Station → Quantile → Leaving → ℕ → Type 0
+abbrev pub IsEnteringAt : Station → Quantile ℤ → Leaving ℤ → ℕ → Type 0
 IsEnteringAt s q l r = IsEntering (model s) (at_of s) (inverse_at s) (theta_of q) l.position l.direction r
 
 -- no slope is negative, or the solving step
-abbrev pub IsSolvingOrNone : Station → Quantile → Option Step → Type 0
+abbrev pub IsSolvingOrNone : Station → Quantile ℤ → Option Step → Type 0
 IsSolvingOrNone s q None = HasNoNegativeSlope (model s) (at_of s) (inverse_at s) (theta_of q)
 IsSolvingOrNone s q (Some x) = IsSolvingStep (model s) (at_of s) (inverse_at s) (theta_of q) x.position x.row

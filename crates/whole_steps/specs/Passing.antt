@@ -3,13 +3,14 @@ use Rattle.std.specs.Prelude.{ℕ, ℤ, ◌*ℤ◌, ◌&&◌, if◌then◌else�
 use Rattle.rational_laws.specs.Fraction.{Fraction}
 use Rattle.rational_laws.specs.Rational.{ℚ, whole}
 use Rattle.pivot_model.specs.Steps.{slope, passing, slope_before, IsEntering}
+use Rattle.whole_inverse.specs.Squares.{WholeSquare}
 use Rattle.whole_steps.specs.declared.line.Line.{Line}
 use Rattle.whole_steps.specs.Lines.{model, at_of, inverse_at, over_of, IsFullLine, is_moving, comes_before}
 use Rattle.whole_steps.specs.declared.passing.Descent.{Descent}
 use Rattle.whole_steps.specs.Quantiles.{IsQuantile, theta_of, number_over}
 
 -- the line
-abbrev pub line_of : Descent → Line
+abbrev pub line_of : Descent → Line ℤ WholeSquare
 line_of d = d.full.line
 
 pub record IsDescent (d : Descent) : Type 0 where

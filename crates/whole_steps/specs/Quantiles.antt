@@ -5,10 +5,10 @@ use Rattle.rational_laws.specs.Rational.{ℚ}
 use Rattle.whole_inverse.specs.Shares.{share}
 use Rattle.whole_steps.specs.declared.quantile.Quantile.{Quantile}
 
-abbrev pub IsQuantile : Quantile → Type 0
+abbrev pub IsQuantile : Quantile ℤ → Type 0
 IsQuantile q = pos 1 ≤ℤ q.under
 
-abbrev pub theta_of : Quantile → ℚ
+abbrev pub theta_of : Quantile ℤ → ℚ
 theta_of q = share q.over q.under
 
 -- a number over e

@@ -40,7 +40,7 @@ pub record IsStation (s : Station) : Type 0 where
   pub solution : IsWholeSolution (model s) (at_of s) (inverse_at s) (over_of s) s.solution.now
 
 -- a part of the cost of a row in a direction
-abbrev pub cost_of : WholeRow → Part → Direction → ℚ
+abbrev pub cost_of : WholeRow ℤ → Part → Direction → ℚ
 cost_of r Constant Upward = whole r.up0
 cost_of r Constant Downward = whole r.down0
 cost_of r Linear Upward = whole r.up1

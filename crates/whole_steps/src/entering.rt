@@ -15,7 +15,7 @@ use crate::station::Station;
 use frac_core::List;
 use pivot_model::Direction;
 use std::alloc::Global;
-use whole_inverse::Obstacle;
+use whole_inverse::{Obstacle, WholeInverse};
 use whole_solution::row_products;
 
 /// The numerators of the residuals of all rows, and of their coordinates at a position that leaves.
@@ -27,7 +27,7 @@ pub struct RowNumbers {
 
 impl<'a> Station<'a> {
     /// The line along which a position leaves in a direction.
-    pub fn line(&self, position: u32, direction: Direction) -> Line<'a>
+    pub fn line(&self, position: u32, direction: Direction) -> Line<'a, i64, WholeInverse>
         requires station { IsStation self.now }
         requires position { position < length self.now.basis.now.inverse.now.columns }
         ensures { IsLineOf self.now position direction result }

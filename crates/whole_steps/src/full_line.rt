@@ -5,19 +5,19 @@ ghost use Rattle.whole_steps.specs.Lines.{IsFullLine, IsMover, IsMoverAt, IsFirs
 
 use crate::less::is_surely_less;
 use crate::line::{Line, Mover, goes_towards};
-use whole_inverse::Obstacle;
+use whole_inverse::{Obstacle, WholeInverse};
 
 /// A line, the residuals of all rows where it begins, and their coordinates at the position: numerators over the determinant.
-#[derive(Clone, Copy)]
-pub struct FullLine<'a> {
-    pub line: Line<'a>,
-    pub residuals: &'a [i128],
-    pub coords: &'a [i128],
+#[derive_where(Clone, Copy)]
+pub struct FullLine<'a, N, I, M> {
+    pub line: Line<'a, N, I>,
+    pub residuals: &'a [M],
+    pub coords: &'a [M],
 }
 
-impl<'a> FullLine<'a> {
+impl<'a> FullLine<'a, i64, WholeInverse, i128> {
     /// A row as a mover, where it moves.
-    pub fn mover_at(&self, row: u32) -> Option<Mover>
+    pub fn mover_at(&self, row: u32) -> Option<Mover<u128>>
         requires full { IsFullLine self.now }
         requires row { row < length self.now.line.basis.now.rows.now }
         ensures { IsMoverAt self.now.line row result }
@@ -40,7 +40,7 @@ impl<'a> FullLine<'a> {
 
     /// Whether a row doesn't move, or surely comes after a mover. Of ratios whose leading bits agree it isn't said.
     #[inline(always)]
-    pub(crate) fn comes_after(&self, first: &Mover, row: u32) -> bool
+    pub(crate) fn comes_after(&self, first: &Mover<u128>, row: u32) -> bool
         requires full { IsFullLine self.now }
         requires first { IsMover self.now.line first.now }
         requires row { row < length self.now.line.basis.now.rows.now }
@@ -63,7 +63,7 @@ impl<'a> FullLine<'a> {
     }
 
     /// Whether the first of the movers before a row is that of those up to it too. It may be so where this isn't said.
-    fn stays_first(&self, best: &Option<Mover>, row: u32) -> bool
+    fn stays_first(&self, best: &Option<Mover<u128>>, row: u32) -> bool
         requires full { IsFullLine self.now }
         requires row { row < length self.now.line.basis.now.rows.now }
         requires best { IsFirstBelow self.now.line row best.now }
@@ -76,7 +76,7 @@ impl<'a> FullLine<'a> {
     }
 
     /// The first of the movers up to a row, from that of those before it.
-    fn one_more(&self, best: Option<Mover>, row: u32) -> Result<Option<Mover>, Obstacle>
+    fn one_more(&self, best: Option<Mover<u128>>, row: u32) -> Result<Option<Mover<u128>>, Obstacle>
         requires full { IsFullLine self.now }
         requires row { row < length self.now.line.basis.now.rows.now }
         requires best { IsFirstBelow self.now.line row best }
@@ -93,7 +93,7 @@ impl<'a> FullLine<'a> {
 
     /// The first row from `start` on that may come before the first of the movers so far; the number of rows where none
     /// does. That mover stays the same on the way, so that its parts stand in registers.
-    fn next_rival(&self, best: Option<Mover>, start: u32) -> u32
+    fn next_rival(&self, best: Option<Mover<u128>>, start: u32) -> u32
         requires full { IsFullLine self.now }
         requires start { start ≤ length self.now.line.basis.now.rows.now }
         requires best { IsFirstBelow self.now.line start best }
@@ -111,7 +111,7 @@ impl<'a> FullLine<'a> {
     }
 
     /// The row of the first of all movers.
-    fn row_of(&self, best: Option<Mover>) -> u32
+    fn row_of(&self, best: Option<Mover<u128>>) -> u32
         requires full { IsFullLine self.now }
         requires some { (i : ℕ) × (i < length self.now.line.basis.now.rows.now) × (is_moving self.now.line i ≡ true) }
         requires best { IsFirstBelow self.now.line (length self.now.line.basis.now.rows.now) best }

@@ -42,7 +42,7 @@ impl<'a> Descent<'a> {
     }
 
     /// Puts a row on its side of another one.
-    fn put(&self, parts: &mut Parts, row: u32, pivot: Mover) -> Result<(), Obstacle>
+    fn put(&self, parts: &mut Parts, row: u32, pivot: Mover<u128>) -> Result<(), Obstacle>
         requires descent { IsDescent self.now }
         requires pivot { IsMover self.now.full.line pivot }
     {
@@ -59,7 +59,7 @@ impl<'a> Descent<'a> {
     }
 
     /// Rows parted by one of them.
-    fn parted(&self, alloc: Global, rows: &[u32], pivot: Mover) -> Result<Parts, Obstacle>
+    fn parted(&self, alloc: Global, rows: &[u32], pivot: Mover<u128>) -> Result<Parts, Obstacle>
         requires descent { IsDescent self.now }
         requires pivot { IsMover self.now.full.line pivot }
     {

@@ -13,14 +13,14 @@ use whole_inverse::Obstacle;
 
 /// A slope of the loss at a quantile, of a position in a direction: times the determinant and the quantile's second part.
 #[derive(Clone, Copy)]
-pub struct Leaving {
+pub struct Leaving<M> {
     pub position: u32,
     pub direction: Direction,
-    pub slope: i128,
+    pub slope: M,
 }
 
 /// The slope that is less, and the first of equal ones.
-fn steeper(first: Leaving, second: Leaving) -> Leaving
+fn steeper(first: Leaving<i128>, second: Leaving<i128>) -> Leaving<i128>
     ensures { (e : ℕ) → 1 ≤ e → IsSteeper (number_over e) (leaving_of first) (leaving_of second) (leaving_of result) }
 {
     if second.slope < first.slope {
@@ -33,10 +33,10 @@ fn steeper(first: Leaving, second: Leaving) -> Leaving
 /// The slope of a position in a direction at a quantile.
 fn slope_of(
     station: &Station<'_>,
-    theta: Quantile,
+    theta: Quantile<i128>,
     position: u32,
     direction: Direction,
-) -> Result<Leaving, Obstacle>
+) -> Result<Leaving<i128>, Obstacle>
     requires station { IsStation station.now }
     requires theta { IsQuantile theta }
     requires position { position < length station.now.basis.now.inverse.now.columns }
@@ -53,7 +53,11 @@ fn slope_of(
 }
 
 /// The lesser of the two slopes of a position.
-fn lesser(station: &Station<'_>, theta: Quantile, position: u32) -> Result<Leaving, Obstacle>
+fn lesser(
+    station: &Station<'_>,
+    theta: Quantile<i128>,
+    position: u32,
+) -> Result<Leaving<i128>, Obstacle>
     requires station { IsStation station.now }
     requires theta { IsQuantile theta }
     requires position { position < length station.now.basis.now.inverse.now.columns }
@@ -68,9 +72,9 @@ fn lesser(station: &Station<'_>, theta: Quantile, position: u32) -> Result<Leavi
 /// none where no slope is negative.
 pub fn steepest(
     station: &Station<'_>,
-    theta: Quantile,
+    theta: Quantile<i128>,
     columns: u32,
-) -> Result<Option<Leaving>, Obstacle>
+) -> Result<Option<Leaving<i128>>, Obstacle>
     requires station { IsStation station.now }
     requires theta { IsQuantile theta }
     requires columns { columns ≡ length station.now.basis.now.inverse.now.columns }

@@ -26,7 +26,7 @@
 //!     Err(obstacle) => Err(obstacle),
 //! }
 //!
-//! let quantile = Quantile::of(theta)?;
+//! let quantile = Quantile::<i128>::of(theta)?;
 //! let step = solving_step::<F>(self.alloc(), &station, quantile, columns)?;
 //! ```
 #![tactic(auto)]

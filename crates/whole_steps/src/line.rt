@@ -10,13 +10,13 @@ ghost use Rattle.whole_steps.specs.Lines.{IsLine, IsMover, IsEarlierMover, IsJoi
 use crate::less::is_surely_less;
 use loss_model::Side;
 use pivot_model::Direction;
-use whole_inverse::Obstacle;
+use whole_inverse::{Obstacle, WholeInverse};
 use whole_solution::WholeBasis;
 
 /// The line along which the row at a position leaves the basis: the sides of all rows where it begins, and the direction.
-#[derive(Clone, Copy)]
-pub struct Line<'a> {
-    pub basis: &'a WholeBasis<'a>,
+#[derive_where(Clone, Copy)]
+pub struct Line<'a, N, I> {
+    pub basis: &'a WholeBasis<'a, N, I>,
     pub sides: &'a [Side],
     pub position: u32,
     pub direction: Direction,
@@ -25,10 +25,10 @@ pub struct Line<'a> {
 /// A row whose residual moves towards 0: the sizes of the numerators of its residual, and of its coordinate at the
 /// position.
 #[derive(Clone, Copy)]
-pub struct Mover {
+pub struct Mover<M> {
     pub row: u32,
-    pub residual: u128,
-    pub coord: u128,
+    pub residual: M,
+    pub coord: M,
 }
 
 /// Whether a number is negative over any positive one.
@@ -81,9 +81,9 @@ pub(crate) fn goes_towards(side: Side, direction: Direction, coord: i128) -> boo
     }
 }
 
-impl<'a> Line<'a> {
+impl<'a> Line<'a, i64, WholeInverse> {
     /// The one of two movers that comes first. Both may be the same row.
-    fn earlier(&self, first: Mover, second: Mover) -> Result<Mover, Obstacle>
+    fn earlier(&self, first: Mover<u128>, second: Mover<u128>) -> Result<Mover<u128>, Obstacle>
         requires line { IsLine self.now }
         requires first { IsMover self.now first }
         requires second { IsMover self.now second }
@@ -103,7 +103,11 @@ impl<'a> Line<'a> {
     }
 
     /// The first of some movers, the first of which is known, and one more.
-    pub(crate) fn joined(&self, best: Option<Mover>, mover: Mover) -> Result<Mover, Obstacle>
+    pub(crate) fn joined(
+        &self,
+        best: Option<Mover<u128>>,
+        mover: Mover<u128>,
+    ) -> Result<Mover<u128>, Obstacle>
         requires line { IsLine self.now }
         requires best { IfSome best (IsMover self.now) }
         requires mover { IsMover self.now mover }

@@ -12,13 +12,13 @@ ghost use Rattle.whole_steps.specs.Lines.{IsNearLine, IsLook, IsMover, IsMoverAt
 use crate::bound::{Pair, is_product_less, most_of};
 use crate::less::is_surely_less;
 use crate::line::{Line, Mover, goes_towards};
-use whole_inverse::Obstacle;
+use whole_inverse::{Obstacle, WholeInverse};
 use whole_solution::{Column, Near};
 
 /// A line, the coefficients where it begins, and the rows near an earlier fit.
 #[derive(Clone, Copy)]
 pub struct NearLine<'a> {
-    pub line: Line<'a>,
+    pub line: Line<'a, i64, WholeInverse>,
     pub coef: &'a [i128],
     pub near: &'a Near,
 }
@@ -62,7 +62,7 @@ impl<'a> Look<'a> {
 
     /// A row as a mover, where it moves.
     #[inline(always)]
-    fn mover_at<const NARROW: bool>(&self, row: u32) -> Result<Option<Mover>, Obstacle>
+    fn mover_at<const NARROW: bool>(&self, row: u32) -> Result<Option<Mover<u128>>, Obstacle>
         requires look { IsLook self.now }
         requires row { row < length self.now.near_line.line.basis.now.rows.now }
         ensures { IfOk result (IsMoverAt self.now.near_line.line row) }
@@ -83,7 +83,7 @@ impl<'a> Look<'a> {
     }
 
     /// The first of the movers among the first near rows, from that of those before the last of them.
-    fn one_more(&self, best: Option<Mover>, k: usize) -> Result<Option<Mover>, Obstacle>
+    fn one_more(&self, best: Option<Mover<u128>>, k: usize) -> Result<Option<Mover<u128>>, Obstacle>
         requires look { IsLook self.now }
         requires place { k < length self.now.near_line.near.now.rows }
         requires best { IsFirstOf self.now.near_line.line (slice_index self.now.near_line.near.now.rows) k best }
@@ -102,7 +102,7 @@ impl<'a> Look<'a> {
 
     /// Whether a row doesn't move, or surely comes after a mover. It may be so where this isn't said.
     #[inline(always)]
-    fn comes_after<const NARROW: bool>(&self, first: &Mover, row: u32) -> bool
+    fn comes_after<const NARROW: bool>(&self, first: &Mover<u128>, row: u32) -> bool
         requires look { IsLook self.now }
         requires first { IsMover self.now.near_line.line first.now }
         requires row { row < length self.now.near_line.line.basis.now.rows.now }
@@ -117,7 +117,7 @@ impl<'a> Look<'a> {
 
     /// Whether the first of the movers before a place is that of those up to it too. It may be so where this isn't said.
     #[inline(always)]
-    fn stays_first<const NARROW: bool>(&self, best: &Option<Mover>, k: usize) -> bool
+    fn stays_first<const NARROW: bool>(&self, best: &Option<Mover<u128>>, k: usize) -> bool
         requires look { IsLook self.now }
         requires place { k < length self.now.near_line.near.now.rows }
         requires best { IsFirstOf self.now.near_line.line (slice_index self.now.near_line.near.now.rows) k best.now }
@@ -132,7 +132,7 @@ impl<'a> Look<'a> {
 
     /// The first place from `start` on whose row may come before the first of the movers so far; the end where none does. That
     /// mover stays the same on the way, and isn't copied.
-    fn next_rival<const NARROW: bool>(&self, best: &Option<Mover>, start: usize) -> usize
+    fn next_rival<const NARROW: bool>(&self, best: &Option<Mover<u128>>, start: usize) -> usize
         requires look { IsLook self.now }
         requires start { start ≤ length self.now.near_line.near.now.rows }
         requires best { IsFirstOf self.now.near_line.line (slice_index self.now.near_line.near.now.rows) start best.now }
@@ -150,7 +150,7 @@ impl<'a> Look<'a> {
     }
 
     /// The same, in numbers of 64 bits where all products have so many.
-    fn rival_from(&self, best: &Option<Mover>, start: usize) -> usize
+    fn rival_from(&self, best: &Option<Mover<u128>>, start: usize) -> usize
         requires look { IsLook self.now }
         requires start { start ≤ length self.now.near_line.near.now.rows }
         requires best { IsFirstOf self.now.near_line.line (slice_index self.now.near_line.near.now.rows) start best.now }
@@ -166,7 +166,7 @@ impl<'a> Look<'a> {
     }
 
     /// The first of the near rows that move.
-    fn first_near(&self) -> Result<Option<Mover>, Obstacle>
+    fn first_near(&self) -> Result<Option<Mover<u128>>, Obstacle>
         requires look { IsLook self.now }
         ensures { let near = self.now.near_line.near.now in IfOk result (IsFirstOf self.now.near_line.line (slice_index near.rows) (length near.rows)) }
     {
@@ -205,7 +205,7 @@ impl<'a> NearLine<'a> {
     }
 
     /// Whether a mover comes before all rows that are far and move. It may where this isn't said.
-    fn precedes_far(&self, first: Mover) -> bool
+    fn precedes_far(&self, first: Mover<u128>) -> bool
         requires near { IsNearLine self.now }
         requires first { IsMover self.now.line first }
         ensures { IsTrue result → AreFarAfter self.now first.row }

@@ -12,13 +12,13 @@ use crate::line::Mover;
 use crate::quantile::Quantile;
 use crate::rivals::Rivals;
 use std::alloc::Global;
-use whole_inverse::Obstacle;
+use whole_inverse::{Obstacle, WholeInverse};
 
 /// A line along which the loss falls, with the numbers of all rows, and the quantile.
 #[derive(Clone, Copy)]
 pub struct Descent<'a> {
-    pub full: FullLine<'a>,
-    pub theta: Quantile,
+    pub full: FullLine<'a, i64, WholeInverse, i128>,
+    pub theta: Quantile<i128>,
 }
 
 /// A guess at the row that enters, and a mover that comes no earlier, with its rivals. Of the row nothing is promised.
@@ -81,7 +81,7 @@ impl<'a> Descent<'a> {
     }
 
     /// Whether a row moves, and is passed before another one.
-    pub(crate) fn is_passed(&self, row: u32, target: Mover) -> Result<bool, Obstacle>
+    pub(crate) fn is_passed(&self, row: u32, target: Mover<u128>) -> Result<bool, Obstacle>
         requires descent { IsDescent self.now }
         requires row { row < length self.now.full.line.basis.now.rows.now }
         requires target { IsMover self.now.full.line target }
@@ -104,7 +104,7 @@ impl<'a> Descent<'a> {
     }
 
     /// The slope after a row, where it is passed before another one.
-    fn after(&self, row: u32, target: Mover, slope: i128) -> Result<i128, Obstacle>
+    fn after(&self, row: u32, target: Mover<u128>, slope: i128) -> Result<i128, Obstacle>
         requires descent { IsDescent self.now }
         requires row { row < length self.now.full.line.basis.now.rows.now }
         requires target { IsMover self.now.full.line target }
@@ -119,7 +119,12 @@ impl<'a> Descent<'a> {
     }
 
     /// The slope after all rows that are passed before a row, of which those that may come before it are marked.
-    fn slope_before(&self, target: Mover, start: i128, marks: &[bool]) -> Result<i128, Obstacle>
+    fn slope_before(
+        &self,
+        target: Mover<u128>,
+        start: i128,
+        marks: &[bool],
+    ) -> Result<i128, Obstacle>
         requires descent { IsDescent self.now }
         requires target { IsMover self.now.full.line target }
         requires marks { AreMarked self.now.full.line target.row marks.now }
@@ -139,7 +144,7 @@ impl<'a> Descent<'a> {
     }
 
     /// Whether passing a row takes the slope from below 0.
-    fn turns(&self, target: Mover, start: i128, marks: &[bool]) -> Result<bool, Obstacle>
+    fn turns(&self, target: Mover<u128>, start: i128, marks: &[bool]) -> Result<bool, Obstacle>
         requires descent { IsDescent self.now }
         requires target { IsMover self.now.full.line target }
         requires marks { AreMarked self.now.full.line target.row marks.now }
@@ -159,7 +164,7 @@ impl<'a> Descent<'a> {
     }
 
     /// A row as a mover, if it is one.
-    pub(crate) fn mover(&self, row: usize) -> Option<Mover>
+    pub(crate) fn mover(&self, row: usize) -> Option<Mover<u128>>
         requires descent { IsDescent self.now }
         ensures { IfSome result (λ m. IsMover self.now.full.line m) }
     {

@@ -9,14 +9,14 @@ use wide_int::Wide;
 
 /// The quantile `over / under`.
 #[derive(Clone, Copy)]
-pub struct Quantile {
-    pub over: i128,
-    pub under: i128,
+pub struct Quantile<M> {
+    pub over: M,
+    pub under: M,
 }
 
-impl Quantile {
+impl Quantile<i128> {
     /// A quantile by its two parts.
-    pub fn of<F: Exact>(theta: F) -> Result<Quantile, Obstacle>
+    pub fn of<F: Exact>(theta: F) -> Result<Quantile<i128>, Obstacle>
         ensures positive { IfOk result IsQuantile }
         ensures value { IfOk result (λ q. theta_of q ≡ rational (F.value theta)) }
     {

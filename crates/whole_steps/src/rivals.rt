@@ -10,18 +10,18 @@ use crate::full_line::FullLine;
 use crate::line::Mover;
 use frac_core::List;
 use std::alloc::Global;
-use whole_inverse::{Obstacle, room_for};
+use whole_inverse::{Obstacle, WholeInverse, room_for};
 
 /// A mover, and by row whether it may come before that.
 #[derive(Drop)]
 pub struct Rivals {
-    pub mover: Mover,
+    pub mover: Mover<u128>,
     pub marks: List<bool>,
 }
 
-impl<'a> FullLine<'a> {
+impl<'a> FullLine<'a, i64, WholeInverse, i128> {
     /// By row, whether it may come before a mover.
-    fn marks(&self, alloc: Global, mover: &Mover) -> Result<List<bool>, Obstacle>
+    fn marks(&self, alloc: Global, mover: &Mover<u128>) -> Result<List<bool>, Obstacle>
         requires full { IsFullLine self.now }
         requires mover { IsMover self.now.line mover.now }
         ensures { IfOk result (AreMarked self.now.line mover.now.row) }
@@ -35,7 +35,7 @@ impl<'a> FullLine<'a> {
     }
 
     /// A mover with its rivals.
-    pub(crate) fn rivals(&self, alloc: Global, mover: Mover) -> Result<Rivals, Obstacle>
+    pub(crate) fn rivals(&self, alloc: Global, mover: Mover<u128>) -> Result<Rivals, Obstacle>
         requires full { IsFullLine self.now }
         requires mover { IsMover self.now.line mover }
         ensures { IfOk result (IsRivals self.now.line) }
@@ -45,7 +45,7 @@ impl<'a> FullLine<'a> {
     }
 
     /// Whether a mover comes no later than another one, so that its rivals are among that one's.
-    pub(crate) fn is_within(&self, target: Mover, rivals: &Rivals) -> Result<bool, Obstacle>
+    pub(crate) fn is_within(&self, target: Mover<u128>, rivals: &Rivals) -> Result<bool, Obstacle>
         requires full { IsFullLine self.now }
         requires target { IsMover self.now.line target }
         requires rivals { IsRivals self.now.line rivals.now }

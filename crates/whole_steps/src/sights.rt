@@ -118,7 +118,7 @@ fn turning_rows(alloc: Global, sights: List<Sight>, slope: u128) -> Result<List<
 }
 
 /// How movers are seen, so that no part has more than 63 bits.
-fn scope_of(movers: &[Mover]) -> Scope {
+fn scope_of(movers: &[Mover<u128>]) -> Scope {
     let mut residual: u128 = 0;
     let mut coord: u128 = 0;
     for i in 0..movers.len() {
@@ -184,7 +184,7 @@ impl<'a> Descent<'a> {
     }
 
     /// Movers as they are seen.
-    fn view(&self, alloc: Global, movers: &[Mover], start: i128) -> Result<View, Obstacle> {
+    fn view(&self, alloc: Global, movers: &[Mover<u128>], start: i128) -> Result<View, Obstacle> {
         let scope = scope_of(movers);
         let mut sights = room_for(alloc, movers.len())?;
         let mut sum: u128 = 0;
@@ -213,7 +213,7 @@ impl<'a> Descent<'a> {
         alloc: Global,
         rows: usize,
         apart: usize,
-    ) -> Result<List<Mover>, Obstacle>
+    ) -> Result<List<Mover<u128>>, Obstacle>
         requires descent { IsDescent self.now }
     {
         let mut found = room_for(alloc, SAMPLE)?;
@@ -228,7 +228,7 @@ impl<'a> Descent<'a> {
     }
 
     /// The movers among the marked rows.
-    fn marked_movers(&self, alloc: Global, marks: &[bool]) -> Result<List<Mover>, Obstacle>
+    fn marked_movers(&self, alloc: Global, marks: &[bool]) -> Result<List<Mover<u128>>, Obstacle>
         requires descent { IsDescent self.now }
     {
         let mut found = room_for(alloc, SAMPLE)?;

@@ -17,8 +17,8 @@ use whole_inverse::Obstacle;
 fn entering(
     alloc: Global,
     station: &Station<'_>,
-    theta: Quantile,
-    leave: Leaving,
+    theta: Quantile<i128>,
+    leave: Leaving<i128>,
 ) -> Result<u32, Obstacle>
     requires station { IsStation station.now }
     requires theta { IsQuantile theta }
@@ -40,7 +40,7 @@ fn entering(
 pub fn solving_step(
     alloc: Global,
     station: &Station<'_>,
-    theta: Quantile,
+    theta: Quantile<i128>,
     columns: u32,
 ) -> Result<Option<Step>, Obstacle>
     requires station { IsStation station.now }

@@ -7,18 +7,19 @@ ghost use Rattle.whole_steps.specs.Stations.{IsStation, model, at_of, inverse_at
 
 use basis_model::Part;
 use pivot_model::Direction;
+use whole_inverse::WholeInverse;
 use whole_rows::WholeRow;
 use whole_solution::{WholeBasis, WholeSolution};
 
 /// A basis of rows in whole numbers, with what stands there.
 #[derive(Clone, Copy)]
 pub struct Station<'a> {
-    pub basis: &'a WholeBasis<'a>,
+    pub basis: &'a WholeBasis<'a, i64, WholeInverse>,
     pub solution: &'a WholeSolution,
 }
 
 /// A part of the cost of a row in a direction.
-fn cost(chosen: &WholeRow, part: Part, direction: Direction) -> i64
+fn cost(chosen: &WholeRow<i64>, part: Part, direction: Direction) -> i64
     ensures { whole result ≡ cost_of chosen.now part direction }
 {
     match (part, direction) {

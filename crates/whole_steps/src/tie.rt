@@ -15,7 +15,7 @@ ghost use Rattle.whole_steps.specs.Ties.{entry_on, IsTied, IsEntryAt, IsNextHeld
 use crate::line::{Line, Mover};
 use loss_model::Side;
 use std::cmp::Ordering;
-use whole_inverse::Obstacle;
+use whole_inverse::{Obstacle, WholeInverse};
 use whole_solution::negation;
 use wide_int::Natural;
 
@@ -94,9 +94,9 @@ fn next_held(basis: &[u32], from: u32, to: u32) -> Option<usize>
     next
 }
 
-impl<'a> Line<'a> {
+impl<'a> Line<'a, i64, WholeInverse> {
     /// A mover with what its entries share.
-    fn tied(&self, mover: Mover) -> Tied
+    fn tied(&self, mover: Mover<u128>) -> Tied
         requires line { IsLine self.now }
         requires mover { IsMover self.now mover }
         ensures tied { IsTied self.now result }
@@ -170,7 +170,7 @@ impl<'a> Line<'a> {
     }
 
     /// Whether the ratio of one row is less than that of another, where their first entries agree.
-    pub(crate) fn break_tie(&self, left: Mover, right: Mover) -> Result<bool, Obstacle>
+    pub(crate) fn break_tie(&self, left: Mover<u128>, right: Mover<u128>) -> Result<bool, Obstacle>
         requires line { IsLine self.now }
         requires left { IsMover self.now left }
         requires right { IsMover self.now right }
