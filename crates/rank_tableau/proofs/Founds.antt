@@ -1,5 +1,5 @@
 -- What is found at the first crossing of a station, for the problem.
-use Rattle.std.specs.Prelude.{◌≡◌, ℕ, ◌*◌, ◌<◌, ◌≤◌, true, false, List, None, Some, length, slice_index, pos}
+use Rattle.std.specs.Prelude.{◌≡◌, ℕ, ℤ, ◌*◌, ◌<◌, ◌≤◌, true, false, List, None, Some, length, slice_index, pos}
 use Rattle.std.specs.Ordering.{nat_cmp, is_gt}
 use Rattle.std.proofs.Common.{sym, ap, subst, ◌∙◌}
 use Rattle.rational_laws.specs.Fraction.{Fraction, rational}
@@ -48,7 +48,7 @@ step_on fall p tau j at a bound from t k r d next within first = record { direct
 
 module _ {F : Type 0} (value : F → Fraction) (k : Kept F) (h : IsKept value k) (c : Course F) (lj : c.column < k.problem.columns) (t : Station) (is : IsStationOf k t) (from : F)
     (stop : IsOptimalIn (family_of value (sample value k.problem) c) (slice_index k.rows) (unscaled (factor_at k.setting.wholes.factors) (inverse_of k.square)) (parameter_at value c from))
-    (f : Factor) (ef : factor_value f ≡ factor_at k.setting.wholes.factors c.column) (pf : IsPositive f)
+    (f : Factor ℤ) (ef : factor_value f ≡ factor_at k.setting.wholes.factors c.column) (pf : IsPositive f)
     (b : Breakpoint Quotient) (first : IsFirstAt value t c k.problem.columns b) (divisor : 1 ≤ b.theta.under)
     (theta : F) (is_theta : rational (value theta) ≡ rational (quotient_value b.theta) *ℚ inverse (factor_value k.setting.wholes.cost *ℚ factor_value f)) where
   abbrev p : Sample
@@ -105,7 +105,7 @@ module _ {F : Type 0} (value : F → Fraction) (k : Kept F) (h : IsKept value k)
           still i li =
               sym (moves_is value k h b.position b.direction i li)
               ∙ carried value k h t is.rows is.at is.inverse (λ q at a e. moves q at a b.position b.direction i ≡ false)
-              (none i (subst (λ n. i < n) (sym (ap (λ (xs : List WholeRow). length xs) is.rows ∙ h.setting.scaled.rows)) li))
+              (none i (subst (λ n. i < n) (sym (ap (λ (xs : List (WholeRow ℤ)). length xs) is.rows ∙ h.setting.scaled.rows)) li))
 
       pub step_here : (x : Exchange F) → x.position ≡ b.position → rational (value x.theta) ≡ parameter_of (way_of c.way) (rational (value theta)) → IsEnteringOrNone t b.position b.direction (Some x.row)
           → IsFound value (place value k) c (bound_by k c.column r) from (Step x)

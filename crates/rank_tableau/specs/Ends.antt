@@ -1,5 +1,5 @@
 -- Inner. What a walk in whole numbers hands out at its end.
-use Rattle.std.specs.Prelude.{◌≡◌, ℕ, ◌<◌, ◌*ℤ◌, List, length}
+use Rattle.std.specs.Prelude.{◌≡◌, ℕ, ℤ, ◌<◌, ◌*ℤ◌, List, length}
 use Rattle.rational_laws.specs.Fraction.{Fraction, rational}
 use Rattle.rational_laws.specs.Rational.{ℚ, ◌+ℚ◌, ◌*ℚ◌}
 use Rattle.loss_model.specs.declared.interval.End.{End}
@@ -21,7 +21,7 @@ use Rattle.rank_tableau.specs.Founds.{parameter_at, IsFound}
 
 -- numbers over the determinant and the quantile's second part, affine in what the column weighs for the whole rows, are read
 -- there and divided by the factor of the costs
-pub record IsWeighing {F : Type 0} (value : F → Fraction) (k : Kept F) (q : Quantile) (f : Factor) (weight : F) (r : Reading F) : Type 0 where
+pub record IsWeighing {F : Type 0} (value : F → Fraction) (k : Kept F) (q : Quantile ℤ) (f : Factor ℤ) (weight : F) (r : Reading F) : Type 0 where
   pub theta : rational (value r.theta) ≡ (rational (value weight) *ℚ factor_value k.setting.wholes.cost) *ℚ factor_value f
   pub denominator : r.denominator.number ≡ k.square.determinant *ℤ q.under
   pub factor : rational (value r.factor) ≡ factor_value k.setting.wholes.cost

@@ -23,7 +23,7 @@ fn natural(n: i128) -> Result<u128, Obstacle>
 }
 
 /// What a fraction's numerator lacks to its denominator, where it lacks something or nothing.
-fn lack(part: Factor) -> Result<u128, Obstacle>
+fn lack(part: Factor<i128>) -> Result<u128, Obstacle>
     ensures { IfOk result (λ m. pos m ≡ part.under +ℤ neg_ℤ part.over) }
 {
     match part.under.checked_sub(part.over) {
@@ -63,8 +63,8 @@ fn product(
 /// The critical value times tau times 1 - tau times the squared length `left / parts`, where none of these is negative.
 pub fn square_bound(
     alloc: Global,
-    crit: Factor,
-    tau: Factor,
+    crit: Factor<i128>,
+    tau: Factor<i128>,
     left: &Integer,
     parts: &Natural,
 ) -> Result<Square, Obstacle>

@@ -29,8 +29,8 @@ pub(crate) fn product<F: Exact>(a: F, b: F) -> Result<F, Obstacle>
 /// How the dual values where the column weighs so much are read from their numbers.
 fn weighing<F: Exact>(
     tableau: &WholeTableau<'_, F>,
-    theta: Quantile,
-    factor: Factor,
+    theta: Quantile<i128>,
+    factor: Factor<i128>,
     weight: F,
 ) -> Result<Reading<F>, Obstacle>
     requires positive { IsPositive factor }
@@ -53,7 +53,7 @@ fn weighing<F: Exact>(
 fn weighed<F: Exact>(
     tableau: &WholeTableau<'_, F>,
     course: &Course<F>,
-    factor: Factor,
+    factor: Factor<i128>,
     weight: F,
     position: u32,
 ) -> Result<F, Obstacle>
@@ -64,7 +64,7 @@ fn weighed<F: Exact>(
     requires positive { IsPositive factor }
     ensures { IfOk result (λ e. rational (F.value e) ≡ weighed_value F.value (place F.value tableau.now) course.now weight position) }
 {
-    let theta = Quantile::of(course.tau)?;
+    let theta = Quantile::<i128>::of(course.tau)?;
     let reading = weighing(tableau, theta, factor, weight)?;
     let dual = dual_number(tableau, theta, position)?;
     let speed = speed_number(tableau, course.column, theta, position)?;
@@ -78,7 +78,7 @@ fn weighed<F: Exact>(
 pub(crate) fn weighed_values<F: Exact>(
     tableau: &WholeTableau<'_, F>,
     course: &Course<F>,
-    factor: Factor,
+    factor: Factor<i128>,
     weight: F,
 ) -> Result<List<F>, Obstacle>
     requires kept { IsKept F.value tableau.now }

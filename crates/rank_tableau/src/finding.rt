@@ -35,7 +35,7 @@ fn at_crossing<F: Exact>(
     station: &Station<'_>,
     course: &Course<F>,
     reach: &Square,
-    factor: Factor,
+    factor: Factor<i128>,
     next: Breakpoint<Quotient>,
     from: F,
 ) -> Result<Finding<F>, Obstacle>
@@ -93,7 +93,7 @@ pub fn found<F: Exact>(
     let whole = WholeCourse {
         way: course.way,
         column: course.column,
-        theta: Quantile::of(course.tau)?,
+        theta: Quantile::<i128>::of(course.tau)?,
     };
     match first_crossing(&station, whole, tableau.problem().columns) {
         Ok(Some(next)) => { at_crossing(tableau, &station, course, reach, factor, next, from) }

@@ -24,7 +24,7 @@ fn times(a: i128, b: i128) -> Result<i128, Obstacle>
 /// The determinant times the quantile's second part.
 pub(crate) fn scale_number<F: Exact>(
     tableau: &WholeTableau<'_, F>,
-    theta: Quantile,
+    theta: Quantile<i128>,
 ) -> Result<i128, Obstacle>
     ensures { IfOk result (λ n. n ≡ tableau.now.square.determinant *ℤ theta.under) }
 {
@@ -35,7 +35,7 @@ pub(crate) fn scale_number<F: Exact>(
 /// The dual value at a position at the quantile.
 pub(crate) fn dual_number<F: Exact>(
     tableau: &WholeTableau<'_, F>,
-    theta: Quantile,
+    theta: Quantile<i128>,
     position: u32,
 ) -> Result<i128, Obstacle>
     requires theta { IsQuantile theta }
@@ -69,7 +69,7 @@ pub(crate) fn entry_number<F: Exact>(
 pub(crate) fn speed_number<F: Exact>(
     tableau: &WholeTableau<'_, F>,
     column: u32,
-    theta: Quantile,
+    theta: Quantile<i128>,
     position: u32,
 ) -> Result<i128, Obstacle>
     requires kept { IsKept F.value tableau.now }

@@ -33,7 +33,7 @@ pub enum Next<F> {
 fn basic_values<F: Exact>(
     tableau: &WholeTableau<'_, F>,
     course: &Course<F>,
-    factor: Factor,
+    factor: Factor<i128>,
     sorted: &[u32],
     weight: F,
 ) -> Result<List<F>, Obstacle>
@@ -65,7 +65,7 @@ fn value_of_column<F: Exact>(values: &[F], column: u32) -> Result<F, Obstacle>
 fn finite_end<F: Exact>(
     tableau: &WholeTableau<'_, F>,
     course: &Course<F>,
-    factor: Factor,
+    factor: Factor<i128>,
     reach: &Square,
     from: F,
     next: Breakpoint<F>,
@@ -102,7 +102,7 @@ fn finite_end<F: Exact>(
 fn endless<F: Exact>(
     tableau: &WholeTableau<'_, F>,
     course: &Course<F>,
-    factor: Factor,
+    factor: Factor<i128>,
     reach: &Square,
     from: F,
     next: Breakpoint<F>,

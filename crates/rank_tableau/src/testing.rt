@@ -49,8 +49,8 @@ fn reach_of<F: Exact>(
     ensures bound { let f = factors.now in let c = share_at (pos f.denominator) f.numerators in
         IfOk result (λ s. (p : Sample) → HasGram p gram.now → IsProjection p column c → share (pos s.over) (pos s.under) ≡ rank_bound (rational (F.value tau)) (rational (F.value crit)) (squared_length p column c)) }
 {
-    let quantile = Quantile::of(tau)?;
-    let critical = Quantile::of(crit)?;
+    let quantile = Quantile::<i128>::of(tau)?;
+    let critical = Quantile::<i128>::of(crit)?;
     let left = length_of(alloc, gram, column, factors)?;
     if left.is_negative() {
         return Err(Obstacle::TooWide);
@@ -74,7 +74,7 @@ fn reach_of<F: Exact>(
 fn listed<F: Exact>(
     alloc: Global,
     factors: &Factors,
-    scales: &[Factor],
+    scales: &[Factor<i128>],
     column: usize,
 ) -> Result<Option<List<F>>, Obstacle>
     requires column { column < length scales.now }

@@ -1,5 +1,6 @@
 -- The line has the numbers of the station, and its rows move as they do there.
-use Rattle.std.proofs.Common.{◌<◌, length, sym, subst, ◌∙◌}
+use Rattle.std.proofs.Common.{◌<◌, length, sym, subst, ◌∙◌, ℤ}
+use Rattle.whole_inverse.specs.Squares.{WholeSquare}
 use Rattle.whole_solution.specs.declared.basis.WholeBasis.{WholeBasis}
 use Rattle.whole_steps.proofs.Lines.{full_line, moving_is}
 use Rattle.rank_steps.proofs.entering.first_of_all.Goals as goal
@@ -18,4 +19,4 @@ first_mover-requires-clause-some c =
 pub returns-in-None : goal.returns-in-None
 returns-in-None c i li =
     let none = rw (c.in-None.is) at c.some_mover.ensures in
-    sym (moving_is c.args.station.now c.args.position c.args.direction c.line.result c.line.ensures i) ∙ none i (subst (λ (b : WholeBasis). i < length b.rows.now) (sym c.line.ensures.basis) li)
+    sym (moving_is c.args.station.now c.args.position c.args.direction c.line.result c.line.ensures i) ∙ none i (subst (λ (b : WholeBasis ℤ WholeSquare). i < length b.rows.now) (sym c.line.ensures.basis) li)

@@ -1,4 +1,4 @@
-use Rattle.std.proofs.Common.{rules, ◌≡◌, List, length, pos, sym, subst, ◌∙◌}
+use Rattle.std.proofs.Common.{rules, ◌≡◌, List, length, pos, sym, subst, ◌∙◌, ℤ}
 use Rattle.rational_laws.specs.Fraction.{rational}
 use Rattle.rational_laws.proofs.Signs.{positive_nonzero}
 use Rattle.whole_inverse.specs.Shares.{share_at}
@@ -27,4 +27,4 @@ returns g c =
     c.requires.column setting.scaled setting.factors (positive_nonzero (factor_value w.cost) setting.cost) there
     (c.in_ok-reach.ensures.positive (wholes_of k) c.requires.gram there) c.in_ok-reach.ensures.under (c.in_ok-reach.ensures.bound (wholes_of k) c.requires.gram there) listed
     (subst (λ n. AreListed value n (unscaled_factors (factor_at w.factors) j over) listed) (sym wide)
-    (subst (λ (fs : List Factor). AreListed value (length found.numerators) (unscaled_factors (factor_at fs) j over) listed) scales (c.in_ok-factors.ensures {u = tt})))
+    (subst (λ (fs : List (Factor ℤ)). AreListed value (length found.numerators) (unscaled_factors (factor_at fs) j over) listed) scales (c.in_ok-factors.ensures {u = tt})))
