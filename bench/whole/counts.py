@@ -35,6 +35,14 @@ def counted(words, read):
     return int(re.search(r"Collected : (\d+)", ran.stderr)[1]) / 1e6
 
 
+def without_debug(program, room):
+    """The program without what debuggers read, which some valgrinds can't; where strip isn't installed, as it is."""
+    if not shutil.which("strip"):
+        return program
+    subprocess.run(["strip", "--strip-debug", "-o", room / "program", program], check=True)
+    return room / "program"
+
+
 def main(program):
     """Prints each count with its limit, and ends with 1 where one is above it."""
     if not shutil.which("valgrind"):
@@ -42,6 +50,7 @@ def main(program):
         return 0
     failed = False
     with tempfile.TemporaryDirectory() as made:
+        program = without_debug(program, Path(made))
         table, certificate = generated(Path(made), 1000, 4), Path(made) / "whole.json"
         spent([program, "certify", *WHOLE], table, certificate, turns=1)
         for name, words, shows, limit in JOBS:

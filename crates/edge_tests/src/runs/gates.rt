@@ -20,6 +20,7 @@ fn engine_gate(rt: HostRuntime) {
 static CHECKED: &str =
     "quantreg check 1\ncolumns 1\nrows 128\nsegments 128\nintervals 0\naccepted\nend\n";
 
+// The first job of a condition comes three times: for both bounds of the dual values, and once for all that is tested of sums.
 #[test]
 fn check_gate(rt: HostRuntime) {
     let table = counted(&rt, rt.alloc(), 128);
@@ -29,4 +30,5 @@ fn check_gate(rt: HostRuntime) {
     let left = ran_at(&rt, rt.alloc(), "check", &written.printed, &gate);
     assert_printed(&rt, &left, CHECKED);
     assert!(rt; gate.took_place());
+    assert!(rt; gate.saw_three());
 }
