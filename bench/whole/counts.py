@@ -32,7 +32,8 @@ def counted(words, read):
     callgrind = ["valgrind", "--tool=callgrind", "--callgrind-out-file=/dev/null"]
     with open(read, "rb") as given:
         ran = subprocess.run([*callgrind, *words], stdin=given, stdout=subprocess.DEVNULL, stderr=subprocess.PIPE, text=True, check=True)
-    return int(re.search(r"Collected : (\d+)", ran.stderr)[1]) / 1e6
+    found = re.search(r"Collected : (\d+)", ran.stderr)
+    return int(found[1]) / 1e6 if found else sys.exit("counts: failed, since callgrind told no count, as of a program that isn't the gate's")
 
 
 def without_debug(program, room):
