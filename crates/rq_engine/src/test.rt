@@ -1,10 +1,11 @@
 //! The job `test`: the rank test of nested models, from the start of its problem, the process without the tested columns, the
 //! Wilcoxon scores of the rows by it, and the statistic.
-ghost use Rattle.std.specs.Prelude.{◌≡◌, ℕ, ◌<◌, ◌^◌, length, IfOk, IfErr, ◌≤◌};
+ghost use Rattle.std.specs.Prelude.{◌≡◌, ℕ, ◌<◌, ◌^◌, All, length, IfOk, IfErr, ◌≤◌};
 ghost use Rattle.frac_core.specs.Values.{value};
 ghost use Rattle.loss_model.specs.Dual.{IsDataRow};
 ghost use Rattle.loss_model.specs.FullRank.{HasFullRank};
 ghost use Rattle.loss_model.specs.Problem.{sample, IsWellShaped};
+ghost use Rattle.ratio.specs.Lowest.{IsLowest};
 ghost use Rattle.nested_test.specs.Restricted.{restricted_problem};
 ghost use Rattle.report_text.specs.ReportText.{IsPrintable};
 ghost use Rattle.report_text.specs.declared.report.Report.TheVariants as reports;
@@ -76,7 +77,11 @@ fn fit_of(
     ensures process { result.process ≡ process }
     ensures scores { result.scores ≡ found.scores }
     ensures statistic { result.statistic ≡ found.statistic }
+    ensures lowest_scores { All IsLowest result.scores }
+    ensures lowest { IsLowest result.statistic }
 {
+    all_lowest(found.scores.as_slice());
+    found.statistic.lowest();
     let Design {
         names,
         rows,
@@ -123,8 +128,6 @@ pub(crate) fn test_input(alloc: Global, job: &TestJob, input: Input) -> Result<T
         Ok(found) => found,
         Err(OutOfMemory) => return Err(Halt::OutOfMemory),
     };
-    all_lowest(found.scores.as_slice());
-    found.statistic.lowest();
     match List::copy(alloc, tested) {
         Ok(tested) => Ok(fit_of(input.design, tested, process, found)),
         Err(OutOfMemory) => Err(Halt::OutOfMemory),
