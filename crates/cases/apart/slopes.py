@@ -1,7 +1,7 @@
 #!/usr/bin/env python3
 """Works rank intervals of a slope again, apart from the program: by their definition, in Python's fractions.
 
-Of ../data/intervals.txt it takes the cases of `wholes` and `ends` that ask for the second of two columns of which the first is 1, where all
+Of ../data/intervals.txt it takes the cases of `wide wholes` and `wide ends` that ask for the second of two columns of which the first is 1, where all
 costs are those of plain rows and no quantile of the restricted fit is a range. It tells how many it worked to the same ends, and where one
 differs both, and then the status is 1. It knows no pivot, basis or walk: without its ties, a value of the slope is within where the square
 of the statistic of the one dual solution is.
@@ -56,10 +56,10 @@ def main():
     for line in CASES.read_text(encoding="utf-8").splitlines():
         if line.startswith("= "):
             points = points_of(line[2:])
-        if points is None or not line.startswith(("> wholes 1 ", "> ends 1 ")):
+        if points is None or not line.startswith(("> wide wholes 1 ", "> wide ends 1 ")):
             continue
         asked, _, wanted = line.partition(" => ")
-        tau, crit = (Fraction(word) for word in asked.split()[3:5])
+        tau, crit = (Fraction(word) for word in asked.split()[4:6])
         if (len(points) * tau).denominator == 1 or "none" in wanted:
             continue
         made = "; ".join(told(end) for end in ends(points, tau, crit))
