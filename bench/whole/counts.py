@@ -18,11 +18,12 @@ from ratios import WHOLE, generated, spent
 
 MEDIAN = ["--formula", "y ~ .", "--lo", "1/2", "--hi", "1/2"]
 
-# A job on a table of 1,000 rows and 5 columns, or on the certificate of its fits, what it shows, and the most that it may take, in millions of instructions.
+# A job on a table of 1,000 rows and 5 columns, on one with long tails, or on the certificate of the fits of the first, what it shows, and the most that it may take, in millions of instructions.
 JOBS = [
-    ("process", ["process", *WHOLE], "loops over rows are compiled for 64 bits, near rows serve while a quarter of their distance is left, and segments take over ends", 139.2),
-    ("ranks", ["ranks", "--formula", "y ~ ."], "the same, and a Wilcoxon score is reduced once", 369),
-    ("at 1/2", ["process", *MEDIAN], "values whose factor is 1 are copied into whole numbers, and a solve looks at rivals alone", 16.1),
+    ("process", ["process", *WHOLE], "loops over rows are compiled for 64 bits, near rows serve while a quarter of their distance is left, and segments take over ends", 140.5),
+    ("ranks", ["ranks", "--formula", "y ~ ."], "the same, and a Wilcoxon score is reduced once", 362.5),
+    ("at 1/2", ["process", *MEDIAN], "values whose factor is 1 are copied into whole numbers, and a solve looks at rivals alone", 16.3),
+    ("long tails", ["process", *WHOLE], "rows far from the middles of their columns have classes of their own", 146),
     ("check", ["check"], "a run of segments is summed by slopes", 480),
 ]
 
@@ -34,6 +35,15 @@ def counted(words, read):
         ran = subprocess.run([*callgrind, *words], stdin=given, stdout=subprocess.DEVNULL, stderr=subprocess.PIPE, text=True, check=True)
     found = re.search(r"Collected : (\d+)", ran.stderr)
     return int(found[1]) / 1e6 if found else sys.exit("counts: failed, since callgrind told no count, as of a program that isn't the gate's")
+
+
+def with_long_tails(table, room):
+    """A table with the same responses, whose other numbers are 100,000 over those of the table and one, without what is left."""
+    header, *records = table.read_text(encoding="utf-8").splitlines()
+    made = room / "tails.csv"
+    rows = (",".join([y, *(str(100_000 // (1 + int(x))) for x in xs)]) for y, *xs in (record.split(",") for record in records))
+    made.write_text("\n".join([header, *rows, ""]), encoding="utf-8")
+    return made
 
 
 def without_debug(program, room):
@@ -54,8 +64,9 @@ def main(program):
         program = without_debug(program, Path(made))
         table, certificate = generated(Path(made), 1000, 4), Path(made) / "whole.json"
         spent([program, "certify", *WHOLE], table, certificate, turns=1)
+        others = {"check": certificate, "long tails": with_long_tails(table, Path(made))}
         for name, words, shows, limit in JOBS:
-            took = counted([program, *words], certificate if name == "check" else table)
+            took = counted([program, *words], others.get(name, table))
             failed |= took > limit
             print(f"{name}: {took:.1f} million instructions, at most {limit}: {shows}")
     return 1 if failed else 0
