@@ -23,7 +23,6 @@ mod sites;
 mod spill;
 mod stop;
 mod vertex;
-mod widening;
 
 pub use interval::{Beyond, Bound, End, Interval, IntervalProof};
 pub use loss::{down_cost_at, loss_at, residual_at, up_cost_at};
@@ -34,4 +33,3 @@ pub use sites::{Sign, minus_at, over_at, plus_at, plus_product, sum_of_products,
 pub use spill::{Quantity, Short, Site, Spill};
 pub use stop::Stop;
 pub use vertex::{Basis, Side, Vertex};
-pub use widening::{widen_interval, widen_process, widen_stop};
