@@ -12,3 +12,4 @@ pub mod Prices
 pub mod Narrowed
 pub mod Widened
 pub mod Sides
+pub mod Numbers

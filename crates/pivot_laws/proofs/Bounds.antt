@@ -2,7 +2,6 @@
 use Rattle.std.specs.Prelude.{◌≡◌, ℕ, suc, ◌+◌, ◌*◌, ◌<◌, ◌≤◌, Bool, List, [], ◌∷◌, ◌++◌, length, slice_index, slice_set, pos}
 use Rattle.std.specs.declared.cmp.Ordering.TheVariants.{Less}
 use Rattle.std.proofs.Common.{arith, refl, sym, ap, subst, ◌∙◌, inl, inr}
-use Rattle.rational_laws.specs.Fraction.{Fraction}
 use Rattle.rational_laws.specs.Rational.{ℚ, neg_ℚ, whole}
 use Rattle.rational_laws.specs.Solver.{negated, ◌⊟◌, v0, v1}
 use Rattle.rational_laws.proofs.RationalLaws.{ring_ℚ}

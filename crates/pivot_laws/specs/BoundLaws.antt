@@ -1,6 +1,5 @@
 -- Law. No basis comes twice in one part of a lawful trail, so that no part is longer than the number of bases.
 use Rattle.std.specs.Prelude.{ℕ, ◌*◌, ◌-◌, ◌<◌, ◌≤◌, Bool, List, [], ◌∷◌, length, slice_index, slice_set}
-use Rattle.rational_laws.specs.Fraction.{Fraction}
 use Rattle.rational_laws.specs.Rational.{ℚ}
 use Rattle.rational_laws.specs.Selections.{is_among}
 use Rattle.loss_model.specs.declared.process.Exchange.{Exchange}

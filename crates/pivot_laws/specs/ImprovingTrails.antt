@@ -2,7 +2,7 @@
 -- first entry that differs.
 use Rattle.std.specs.Prelude.{◌≡◌, ℕ, suc, ◌<◌, if◌then◌else◌, ◌&&◌, List, [], ◌∷◌, slice_index, slice_set, pos}
 use Rattle.std.specs.declared.cmp.Ordering.TheVariants.{Less}
-use Rattle.rational_laws.specs.Fraction.{Fraction, rational}
+use Rattle.rational_laws.specs.Fraction.{rational}
 use Rattle.rational_laws.specs.Rational.{ℚ, ◌+ℚ◌, ◌-ℚ◌, ◌*ℚ◌, whole}
 use Rattle.rational_laws.specs.RationalSums.{sum_ℚ}
 use Rattle.loss_model.specs.declared.process.Exchange.{Exchange}

@@ -1,6 +1,6 @@
 -- Stated. Lawful trails of solving steps (Barrodale and Roberts 1973).
 use Rattle.std.specs.Prelude.{◌≡◌, ℕ, ◌<◌, List, [], ◌∷◌, length, map, slice_index, slice_set, Some, pos}
-use Rattle.rational_laws.specs.Fraction.{Fraction, rational}
+use Rattle.rational_laws.specs.Fraction.{rational}
 use Rattle.rational_laws.specs.Rational.{ℚ, whole}
 use Rattle.loss_model.specs.declared.process.Exchange.{Exchange}
 use Rattle.loss_model.specs.declared.process.Trail.{Trail}

@@ -1,5 +1,5 @@
 -- The vertex of a basis, from what stands there.
-use Rattle.std.specs.Prelude.{◌≡◌, ◌≢◌, ◌↔◌, ℕ, zero, suc, ◌<◌, Bool, true, false, List, [], ◌∷◌, length, map, slice_get, slice_index, Contains, Some}
+use Rattle.std.specs.Prelude.{◌≡◌, ◌≢◌, ◌↔◌, ℕ, ◌<◌, Bool, true, false, List, length, map, slice_get, slice_index, Contains, Some}
 use Rattle.std.specs.List.Sorted.{IsStrictlyIncreasing}
 use Rattle.std.specs.declared.cmp.Ordering.{Ordering}
 use Rattle.std.specs.declared.cmp.Ordering.TheVariants.{Less, Equal, Greater}
@@ -11,6 +11,7 @@ use Rattle.rational_laws.specs.Selections.{is_among}
 use Rattle.loss_model.specs.declared.vertex.Side.{Side}
 use Rattle.loss_model.specs.declared.vertex.Side.TheVariants.{Basic}
 use Rattle.loss_model.specs.declared.vertex.Vertex.{Vertex}
+use Rattle.loss_model.proofs.Numbers.{same_numbers}
 use Rattle.loss_model.specs.Problem.{number_at, value_at}
 use Rattle.basis_model.specs.Perturbed.{side_of}
 use Rattle.basis_model.specs.Basis.{side_at}
@@ -80,18 +81,17 @@ module _ {F : Type 0} (value : F → Fraction) (h : Place F) (is_place : IsPlace
           coef = coefs.each;
         }
 
--- numbers of any size that are those of a list
-pub same_numbers : {F : Type 0} (value : F → Fraction) (xs : List F) (k : ℕ) → number_at (map value xs) k ≡ value_at value xs k
-same_numbers value [] k = refl
-same_numbers value (x ∷ xs) zero = refl
-same_numbers value (x ∷ xs) (suc k) = same_numbers value xs k
-
 module _ {F : Type 0} (value : F → Fraction) (h : Place F) where
   pub coefficients_wide : (coef : List F) → AreCoefficients value h value coef → AreCoefficients value h (λ x. x) (map value coef)
   coefficients_wide coef are = record { size = length-map coef value ∙ are.size; each = λ k lk. same_numbers value coef k ∙ are.each k lk }
 
-  pub duals_wide : (theta : ℚ) (duals : List F) → AreDuals value h value theta duals → AreDuals value h (λ x. x) theta (map value duals)
-  duals_wide theta duals are = record { size = length-map duals value ∙ are.size; each = λ j lj. same_numbers value duals j ∙ are.each j lj }
+  -- values by row, of any size, are the dual values of the rows
+  pub duals_by_row : (is_place : IsPlace value h) (theta : ℚ) (duals : List F) → AreDuals value h value theta duals → (sorted : List ℕ) (basic : List F) (made : List Fraction)
+      → made ≡ map value basic → length basic ≡ length sorted → ((k : ℕ) → k < length sorted → HasValueAt value h.rows duals sorted basic k)
+      → (length made ≡ length sorted) × ((k : ℕ) → k < length sorted → number_at made k ≡ dual (sample_of value h) (at_of h) h.inverse theta (slice_index sorted k))
+  duals_by_row is_place theta duals are sorted basic made is size each =
+      (ap length is ∙ length-map basic value ∙ size,
+      λ k lk. ap (λ l. number_at l k) is ∙ same_numbers value basic k ∙ dual_by_row value h is_place value theta duals are sorted basic k (each k lk))
 
   module _ (sorted : List ℕ) (is_place : IsPlace value h) (size : length sorted ≡ length h.rows) where
     -- dual values as sorted are those of the vertex

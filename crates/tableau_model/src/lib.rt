@@ -10,12 +10,10 @@
 
 mod answer;
 mod breakpoint;
-mod numbers;
 mod refusal;
 mod rows;
 
 pub use answer::{EndValues, Fitted, Leaving, Standing, Step, WalkingStep};
 pub use breakpoint::{Breakpoint, sooner};
-pub use numbers::widened;
 pub use refusal::{Failure, Refusal};
 pub use rows::{ascending, by_row, position_of};
