@@ -3,11 +3,15 @@ mod Utf8Texts
 mod Feed
 mod Lines
 mod OneByOne
-mod InRationals
 mod Chained
 mod Plain
 mod Shapes
+mod Lowest
+mod NarrowTexts
+mod LongTexts
+mod Strokes
 mod PartsBack
+mod Good
 mod ChainBack
 mod Back
 mod Same

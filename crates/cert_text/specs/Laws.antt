@@ -3,12 +3,14 @@ use Rattle.std.specs.Prelude.{◌≡◌, Ok}
 use Rattle.cert_text.specs.Certificates.{cert_of_data}
 use Rattle.cert_text.specs.Contents.{content}
 use Rattle.cert_text.specs.Limits.{IsWithinLimits}
+use Rattle.cert_text.specs.Numbers.{AreLowest}
 use Rattle.cert_text.specs.Trees.{cert_tree}
 use Rattle.cert_text.specs.declared.cert.Cert.{Cert}
 
--- the tree of a certificate within the limits says what the certificate says
+-- The tree of a certificate within the limits says what the certificate says. That its numbers are in lowest terms is known
+-- of every certificate of the program.
 abbrev pub TreeReadsBack : Type 0
-TreeReadsBack = (c : Cert) → IsWithinLimits c → cert_of_data (cert_tree c) ≡ Ok (content c)
+TreeReadsBack = (c : Cert) → AreLowest c → IsWithinLimits c → cert_of_data (cert_tree c) ≡ Ok (content c)
 
 -- certificates that say the same are the same
 abbrev pub SameContent : Type 0

@@ -3,7 +3,7 @@
 //! The one contract: `write_cert` gives the text of a certificate as `specs/Trees.antt` writes it, and
 //! `read_cert` gives the certificate of the bytes, or their first fault, as `specs/Certificates.antt`
 //! reads them; a text that was written, within the limits, is read as the same certificate. It stands on
-//! `loss_model`, whose types a certificate holds, and on `serde_json`.
+//! `loss_model`, whose types a certificate holds, on `ratio` for numbers of any size, and on `serde_json`.
 //!
 //! `rq_engine` reads and `report_text` writes so:
 //! ```text
@@ -19,6 +19,7 @@
 
 mod cert;
 mod chain;
+mod digits;
 mod fault;
 mod interval;
 mod keys;
@@ -26,6 +27,7 @@ mod later;
 mod laws;
 mod layout;
 mod moves;
+mod narrow;
 mod numbers;
 mod parts;
 mod path;
