@@ -9,20 +9,21 @@ ghost use Rattle.loss_model.specs.Vertex.{basic_value};
 ghost use Rattle.cert_sums.specs.Tables.{IsSmallRow, IsTable};
 ghost use Rattle.cert_sums.specs.Duals.{at_line, side_in, dual_of, IsRowDual, IsDuals};
 
-use crate::scale::{common_scale, product, scaled};
+use crate::scale::{answer_scaled, common_scale, narrow, product, scaled};
 use crate::table::{Line, Table, WholeRow};
 use crate::vertices::{basic_number, side};
 use frac_core::{Frac128, List};
 use loss_model::{Problem, Side, Vertex};
+use ratio::Ratio;
 use std::alloc::Global;
 use wide_int::grown;
 
 /// A quantile, a vertex, and the dual values of the basic rows there.
 #[derive(Clone, Copy)]
 pub(crate) struct End<'a> {
-    pub(crate) theta: Frac128,
-    pub(crate) vertex: &'a Vertex<Frac128>,
-    pub(crate) basic: &'a List<Frac128>,
+    pub(crate) theta: &'a Ratio,
+    pub(crate) vertex: &'a Vertex,
+    pub(crate) basic: &'a List<Ratio>,
 }
 
 /// What dual values are multiplied by beside the scale of the costs, and their products.
@@ -81,17 +82,14 @@ pub(crate) fn row_dual(
     requires scale { scale < 2 ^ 127 }
     requires room { table.now.cost_limit * (scale + unsigned_abs at) < 2 ^ 127 }
     requires small { IsSmallRow table.now.limit table.now.cost_limit row.now }
-    ensures { IfSome result (IsRowDual (side_in end.entry.vertex.now i) row.now scale at ((whole (pos scale) *ℚ whole (pos table.now.cost_scale)) *ℚ basic_value value128 end.entry.vertex.now end.entry.basic.now i)) }
+    ensures { IfSome result (IsRowDual (side_in end.entry.vertex.now i) row.now scale at ((whole (pos scale) *ℚ whole (pos table.now.cost_scale)) *ℚ basic_value end.entry.vertex.now end.entry.basic.now i)) }
 {
     match side(end.vertex, i) {
         Side::Up => Some(line_at(row.up, scale, at)),
         Side::Down => Some(line_at(row.low, scale, at)),
         Side::Basic => {
-            basic_dual(
-                basic_number(end.vertex, end.basic, i),
-                scale,
-                table.cost_scale,
-            )
+            let value = basic_number(end.vertex, end.basic, i)?;
+            basic_dual(value, scale, table.cost_scale)
         }
     }
 }
@@ -104,10 +102,11 @@ pub(crate) fn duals_of(
     end: End<'_>,
 ) -> Option<Duals>
     requires { IsTable problem.now table.now }
-    ensures { IfSome result (IsDuals problem.now table.now (dual_of (sample value128 problem.now) (rational (value128 end.entry.theta)) end.entry.vertex.now end.entry.basic.now)) }
+    ensures { IfSome result (IsDuals problem.now table.now (dual_of (sample value128 problem.now) (rational end.entry.theta.now) end.entry.vertex.now end.entry.basic.now)) }
 {
-    let scale = common_scale(end.theta, end.basic.as_slice())?;
-    let at = scaled(end.theta, scale)?;
+    let theta = narrow(end.theta)?;
+    let scale = common_scale(theta, end.basic.as_slice())?;
+    let at = answer_scaled(end.theta, scale)?;
     if !has_reach(table.cost_limit, scale, at) {
         return None;
     }

@@ -41,4 +41,4 @@ pub use projection::projects;
 pub use ranks::{beyond_bound, lies_inside};
 pub use run::run_holds;
 pub use table::{Line, Table, WholeRow, whole_table};
-pub use vertices::{basic_number, item_at, side};
+pub use vertices::{basis_place, side};

@@ -7,7 +7,7 @@ ghost use Rattle.rational_laws.specs.Fraction.{rational};
 ghost use Rattle.rational_laws.specs.Rational.{◌-ℚ◌, ◌*ℚ◌, whole};
 ghost use Rattle.rational_laws.specs.Terms.{delta};
 ghost use Rattle.frac_core.specs.Values.{value as value128};
-ghost use Rattle.loss_model.specs.Problem.{sample, value_at};
+ghost use Rattle.loss_model.specs.Problem.{number_at, sample};
 ghost use Rattle.rank_model.specs.Restricted.{projected, IsProjection, squared_length};
 ghost use Rattle.wide_int.specs.Numbers.{sizes};
 ghost use Rattle.rational_laws.specs.WholeLists.{whole_at};
@@ -19,12 +19,13 @@ use crate::duals::Duals;
 use crate::ends::WholeProblem;
 use crate::fractions::minus;
 use crate::products::has_room;
-use crate::scale::{common_scale, scaled};
+use crate::scale::{common_scale, narrow, scaled};
 use crate::table::Table;
 use crate::totals::{balances_but, column_number};
 use crate::vertices::item_at;
 use frac_core::{Exact, Frac128, List};
 use loss_model::{IntervalProof, Problem};
+use ratio::Ratio;
 use std::alloc::Global;
 use wide_int::row_product;
 
@@ -41,17 +42,18 @@ fn left_factor(factor: Frac128, own: bool) -> Option<Frac128>
 // Those numbers times a scale, and behind them 0 for the response.
 fn left_factors(
     alloc: Global,
-    factors: &[Frac128],
+    factors: &[Ratio],
     column: usize,
     scale: u128,
 ) -> Option<List<i128>>
     ensures size { IfSome result (λ made. length made ≡ length factors.now + 1) }
-    ensures each { IfSome result (λ made. (k : ℕ) → k < length factors.now → whole_at made k ≡ whole (pos scale) *ℚ (delta k column -ℚ value_at value128 factors.now k)) }
+    ensures each { IfSome result (λ made. (k : ℕ) → k < length factors.now → whole_at made k ≡ whole (pos scale) *ℚ (delta k column -ℚ number_at factors.now k)) }
     ensures last { IfSome result (λ made. whole_at made (length factors.now) ≡ whole (pos 0)) }
 {
     let mut made = List::new(alloc);
     for k in 0..factors.len() {
-        let factor = left_factor(factors[k], k == column)?;
+        let stated = narrow(&factors[k])?;
+        let factor = left_factor(stated, k == column)?;
         let number = scaled(factor, scale)?;
         if made.push(number).is_err() {
             return None;
@@ -105,10 +107,10 @@ fn left_of(
     alloc: Global,
     problem: &Problem<Frac128>,
     table: &Table,
-    interval: &IntervalProof<Frac128>,
+    interval: &IntervalProof,
 ) -> Option<Duals>
     requires { IsTable problem.now table.now }
-    ensures { IfSome result (IsDuals problem.now table.now (λ i. (sample value128 problem.now).up1 i *ℚ projected (sample value128 problem.now) interval.now.column (value_at value128 interval.now.projection) i)) }
+    ensures { IfSome result (IsDuals problem.now table.now (λ i. (sample value128 problem.now).up1 i *ℚ projected (sample value128 problem.now) interval.now.column (number_at interval.now.projection) i)) }
 {
     let factors = interval.projection.as_slice();
     let column = interval.column as usize;
@@ -132,17 +134,18 @@ fn left_of(
 pub(crate) fn length_of(
     alloc: Global,
     whole: WholeProblem<'_>,
-    interval: &IntervalProof<Frac128>,
+    interval: &IntervalProof,
 ) -> Option<Frac128>
     requires { IsTable whole.problem.now whole.table.now }
-    ensures projection { IfSome result (λ _. IsProjection (sample value128 whole.entry.problem.now) interval.now.column (value_at value128 interval.now.projection)) }
-    ensures length { IfSome result (λ q. rational (value128 q) ≡ squared_length (sample value128 whole.entry.problem.now) interval.now.column (value_at value128 interval.now.projection)) }
+    ensures projection { IfSome result (λ _. IsProjection (sample value128 whole.entry.problem.now) interval.now.column (number_at interval.now.projection)) }
+    ensures length { IfSome result (λ q. rational (value128 q) ≡ squared_length (sample value128 whole.entry.problem.now) interval.now.column (number_at interval.now.projection)) }
 {
     let column = interval.column;
     if column >= whole.problem.columns {
         return None;
     }
-    if !item_at(interval.projection.as_slice(), column as usize).is_zero() {
+    let own = item_at(interval.projection.as_slice(), column as usize)?;
+    if !own.is_zero() {
         return None;
     }
     let left = left_of(alloc, whole.problem, whole.table, interval)?;
@@ -154,10 +157,10 @@ pub(crate) fn length_of(
 }
 
 /// Whether the factors of an interval project its column on the other ones, and leave some of it.
-pub fn projects(alloc: Global, whole: WholeProblem<'_>, interval: &IntervalProof<Frac128>) -> bool
+pub fn projects(alloc: Global, whole: WholeProblem<'_>, interval: &IntervalProof) -> bool
     requires { IsTable whole.problem.now whole.table.now }
-    ensures projection { IsTrue result → IsProjection (sample value128 whole.entry.problem.now) interval.now.column (value_at value128 interval.now.projection) }
-    ensures some { IsTrue result → IsPositive (squared_length (sample value128 whole.entry.problem.now) interval.now.column (value_at value128 interval.now.projection)) }
+    ensures projection { IsTrue result → IsProjection (sample value128 whole.entry.problem.now) interval.now.column (number_at interval.now.projection) }
+    ensures some { IsTrue result → IsPositive (squared_length (sample value128 whole.entry.problem.now) interval.now.column (number_at interval.now.projection)) }
 {
     match length_of(alloc, whole, interval) {
         Some(length) => length.sign() > 0,

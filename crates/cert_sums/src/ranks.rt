@@ -5,7 +5,7 @@ ghost use Rattle.rational_laws.specs.Fraction.{rational};
 ghost use Rattle.rational_laws.specs.Order.{cmp_ℚ};
 ghost use Rattle.rational_laws.specs.Rational.{◌-ℚ◌, ◌+ℚ◌, ◌*ℚ◌, whole, ◌≤ℚ◌};
 ghost use Rattle.frac_core.specs.Values.{value as value128};
-ghost use Rattle.loss_model.specs.Problem.{sample, value_at};
+ghost use Rattle.loss_model.specs.Problem.{number_at, sample};
 ghost use Rattle.loss_model.specs.Sample.{residual};
 ghost use Rattle.loss_model.specs.Vertex.{IsOn, basic_value};
 ghost use Rattle.loss_model.specs.declared.vertex.Side.TheVariants.{Basic as BasicRow};
@@ -19,10 +19,12 @@ use crate::ends::WholeProblem;
 use crate::fractions::{against_product, at_most, minus, plus, times};
 use crate::projection::length_of;
 use crate::residuals::follow_sides;
+use crate::scale::narrow;
 use crate::totals::{balances_but, column_number};
 use crate::vertices::{basic_number, side};
 use frac_core::{Exact, Frac128, List};
 use loss_model::{IntervalProof, Problem, Row, Side, Vertex};
+use ratio::Ratio;
 use std::alloc::Global;
 use std::cmp::Ordering;
 
@@ -65,20 +67,33 @@ fn is_between(row: &Row<Frac128>, theta: Frac128, value: Frac128) -> bool
     }
 }
 
+// Whether the basic value of a row is within its costs.
+fn basic_within(row: &Row<Frac128>, end: End<'_>, i: usize) -> bool
+    ensures { IsTrue result → IsBetween row.now (rational end.entry.theta.now) (basic_value end.entry.vertex.now end.entry.basic.now i) }
+{
+    match narrow(end.theta) {
+        Some(theta) => match basic_number(end.vertex, end.basic, i) {
+            Some(value) => is_between(row, theta, value),
+            None => false,
+        },
+        None => false,
+    }
+}
+
 // Whether the value of a row is within its costs where it is a basic one.
 fn row_within(row: &Row<Frac128>, end: End<'_>, i: usize) -> bool
-    ensures { IsTrue result → side_in end.entry.vertex.now i ≡ BasicRow → IsBetween row.now (rational (value128 end.entry.theta)) (basic_value value128 end.entry.vertex.now end.entry.basic.now i) }
+    ensures { IsTrue result → side_in end.entry.vertex.now i ≡ BasicRow → IsBetween row.now (rational end.entry.theta.now) (basic_value end.entry.vertex.now end.entry.basic.now i) }
 {
     match side(end.vertex, i) {
         Side::Up => true,
         Side::Down => true,
-        Side::Basic => { is_between(row, end.theta, basic_number(end.vertex, end.basic, i)) }
+        Side::Basic => basic_within(row, end, i),
     }
 }
 
 // Whether the values of all basic rows are within their costs.
 fn rows_within(problem: &Problem<Frac128>, end: End<'_>) -> bool
-    ensures { IsTrue result → (i : ℕ) → i < length problem.now.rows → IsWithinCosts (sample value128 problem.now) (rational (value128 end.entry.theta)) (side_in end.entry.vertex.now i) (basic_value value128 end.entry.vertex.now end.entry.basic.now i) i }
+    ensures { IsTrue result → (i : ℕ) → i < length problem.now.rows → IsWithinCosts (sample value128 problem.now) (rational end.entry.theta.now) (side_in end.entry.vertex.now i) (basic_value end.entry.vertex.now end.entry.basic.now i) i }
 {
     let rows = problem.rows.as_slice();
     for i in 0..rows.len() {
@@ -97,8 +112,8 @@ fn statistic_at(
     end: End<'_>,
 ) -> Option<Frac128>
     requires { IsTable whole.problem.now whole.table.now }
-    ensures held { IfSome result (λ _. IsHeldWithout (sample value128 whole.entry.problem.now) column (rational (value128 end.entry.theta)) (side_in end.entry.vertex.now) (dual_of (sample value128 whole.entry.problem.now) (rational (value128 end.entry.theta)) end.entry.vertex.now end.entry.basic.now)) }
-    ensures value { IfSome result (λ z. rational (value128 z) ≡ column_sum (sample value128 whole.entry.problem.now) (dual_of (sample value128 whole.entry.problem.now) (rational (value128 end.entry.theta)) end.entry.vertex.now end.entry.basic.now) column) }
+    ensures held { IfSome result (λ _. IsHeldWithout (sample value128 whole.entry.problem.now) column (rational end.entry.theta.now) (side_in end.entry.vertex.now) (dual_of (sample value128 whole.entry.problem.now) (rational end.entry.theta.now) end.entry.vertex.now end.entry.basic.now)) }
+    ensures value { IfSome result (λ z. rational (value128 z) ≡ column_sum (sample value128 whole.entry.problem.now) (dual_of (sample value128 whole.entry.problem.now) (rational end.entry.theta.now) end.entry.vertex.now end.entry.basic.now) column) }
 {
     if !rows_within(whole.problem, end) {
         return None;
@@ -140,21 +155,23 @@ struct Standing {
 fn against_bound(
     alloc: Global,
     whole: WholeProblem<'_>,
-    interval: &IntervalProof<Frac128>,
-    vertex: &Vertex<Frac128>,
-    basic: &List<Frac128>,
+    interval: &IntervalProof,
+    vertex: &Vertex,
+    basic: &List<Ratio>,
 ) -> Option<Standing>
     requires { IsTable whole.problem.now whole.table.now }
     ensures { IfSome result (IsStanding (sample value128 whole.entry.problem.now) interval.now vertex.now basic.now) }
 {
     let end = End {
-        theta: interval.tau,
+        theta: &interval.tau,
         vertex,
         basic,
     };
     let statistic = statistic_at(alloc, whole, interval.column, end)?;
     let length = length_of(alloc, whole, interval)?;
-    let order = order_of(statistic, interval.tau, interval.crit, length)?;
+    let tau = narrow(&interval.tau)?;
+    let crit = narrow(&interval.crit)?;
+    let order = order_of(statistic, tau, crit, length)?;
     Some(Standing { statistic, order })
 }
 
@@ -163,12 +180,12 @@ fn against_bound(
 pub fn lies_inside(
     alloc: Global,
     whole: WholeProblem<'_>,
-    interval: &IntervalProof<Frac128>,
-    vertex: &Vertex<Frac128>,
-    basic: &List<Frac128>,
+    interval: &IntervalProof,
+    vertex: &Vertex,
+    basic: &List<Ratio>,
 ) -> bool
     requires { IsTable whole.problem.now whole.table.now }
-    ensures sides { IsTrue result → (i : ℕ) → i < length whole.entry.problem.now.rows → IsOn (side_in vertex.now i) (residual (sample value128 whole.entry.problem.now) (value_at value128 vertex.now.coef) i) }
+    ensures sides { IsTrue result → (i : ℕ) → i < length whole.entry.problem.now.rows → IsOn (side_in vertex.now i) (residual (sample value128 whole.entry.problem.now) (number_at vertex.now.coef) i) }
     ensures bound { IsTrue result → IsInsideBound (sample value128 whole.entry.problem.now) interval.now vertex.now basic.now }
 {
     if !follow_sides(alloc, whole.problem, whole.table, vertex) {
@@ -185,9 +202,9 @@ pub fn lies_inside(
 pub fn beyond_bound(
     alloc: Global,
     whole: WholeProblem<'_>,
-    interval: &IntervalProof<Frac128>,
-    vertex: &Vertex<Frac128>,
-    basic: &List<Frac128>,
+    interval: &IntervalProof,
+    vertex: &Vertex,
+    basic: &List<Ratio>,
 ) -> Option<Frac128>
     requires { IsTable whole.problem.now whole.table.now }
     ensures { IfSome result (IsBeyondBound (sample value128 whole.entry.problem.now) interval.now vertex.now basic.now) }

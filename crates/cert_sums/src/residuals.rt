@@ -2,7 +2,7 @@
 ghost use Rattle.std.specs.Prelude.{◌≡◌, ◌≤◌, ◌<◌, ◌+◌, ◌*◌, ◌^◌, ℕ, pos, unsigned_abs, All, IfSome, IsTrue, length};
 ghost use Rattle.rational_laws.specs.Rational.{◌*ℚ◌, neg_ℚ, whole};
 ghost use Rattle.frac_core.specs.Values.{value as value128};
-ghost use Rattle.loss_model.specs.Problem.{sample, value_at};
+ghost use Rattle.loss_model.specs.Problem.{number_at, sample};
 ghost use Rattle.loss_model.specs.Sample.{residual};
 ghost use Rattle.loss_model.specs.Vertex.{IsOn};
 ghost use Rattle.wide_int.specs.Numbers.{sizes};
@@ -12,11 +12,12 @@ ghost use Rattle.cert_sums.specs.Duals.{side_in};
 ghost use Rattle.cert_sums.specs.Residuals.{IsWholeOn, AreMultipliers, RowsFollow};
 
 use crate::products::{has_room, narrow_row_product, narrowed};
-use crate::scale::{common_scale, scaled};
+use crate::scale::{common_scale, narrow, scaled};
 use crate::table::Table;
 use crate::vertices::side;
 use frac_core::{Exact, Frac128, List};
 use loss_model::{Problem, Side, Vertex};
+use ratio::Ratio;
 use std::alloc::Global;
 use wide_int::row_product;
 
@@ -29,14 +30,15 @@ struct Multipliers {
 }
 
 // The numbers, for a scale.
-fn numbers_of(alloc: Global, coef: &[Frac128], scale: u128) -> Option<List<i128>>
+fn numbers_of(alloc: Global, coef: &[Ratio], scale: u128) -> Option<List<i128>>
     ensures size { IfSome result (λ made. length made ≡ length coef.now + 1) }
-    ensures each { IfSome result (λ made. (k : ℕ) → k < length coef.now → whole_at made k ≡ whole (pos scale) *ℚ neg_ℚ (value_at value128 coef.now k)) }
+    ensures each { IfSome result (λ made. (k : ℕ) → k < length coef.now → whole_at made k ≡ whole (pos scale) *ℚ neg_ℚ (number_at coef.now k)) }
     ensures last { IfSome result (λ made. whole_at made (length coef.now) ≡ whole (pos scale)) }
 {
     let mut made = List::new(alloc);
     for k in 0..coef.len() {
-        let number = scaled(coef[k].neg(), scale)?;
+        let coefficient = narrow(&coef[k])?;
+        let number = scaled(coefficient.neg(), scale)?;
         if made.push(number).is_err() {
             return None;
         }
@@ -53,7 +55,7 @@ fn numbers_of(alloc: Global, coef: &[Frac128], scale: u128) -> Option<List<i128>
 }
 
 // Those of coefficients.
-fn multipliers_of(alloc: Global, coef: &[Frac128]) -> Option<Multipliers>
+fn multipliers_of(alloc: Global, coef: &[Ratio]) -> Option<Multipliers>
     ensures { IfSome result (AreMultipliers coef.now) }
 {
     let scale = common_scale(Frac128::one(), coef)?;
@@ -74,10 +76,10 @@ pub(crate) fn follow_sides(
     alloc: Global,
     problem: &Problem<Frac128>,
     table: &Table,
-    vertex: &Vertex<Frac128>,
+    vertex: &Vertex,
 ) -> bool
     requires { IsTable problem.now table.now }
-    ensures { IsTrue result → (i : ℕ) → i < length problem.now.rows → IsOn (side_in vertex.now i) (residual (sample value128 problem.now) (value_at value128 vertex.now.coef) i) }
+    ensures { IsTrue result → (i : ℕ) → i < length problem.now.rows → IsOn (side_in vertex.now i) (residual (sample value128 problem.now) (number_at vertex.now.coef) i) }
 {
     let coef = vertex.coef.as_slice();
     if coef.len() != problem.columns as usize {
@@ -96,7 +98,7 @@ pub(crate) fn follow_sides(
 }
 
 // Whether the sums of the cells of each row times these numbers lie on the side of the row.
-fn all_follow(alloc: Global, table: &Table, numbers: &[i128], vertex: &Vertex<Frac128>) -> bool
+fn all_follow(alloc: Global, table: &Table, numbers: &[i128], vertex: &Vertex) -> bool
     requires same { All (λ w. length w.cells ≡ length numbers.now) table.now.rows }
     requires small { All (λ w. All (λ e. unsigned_abs e ≤ table.now.limit) w.cells) table.now.rows }
     requires bound { table.now.limit * sizes numbers.now < 2 ^ 127 }
@@ -109,7 +111,7 @@ fn all_follow(alloc: Global, table: &Table, numbers: &[i128], vertex: &Vertex<Fr
 }
 
 // The same, of numbers of any width.
-fn rows_follow(table: &Table, numbers: &[i128], vertex: &Vertex<Frac128>) -> bool
+fn rows_follow(table: &Table, numbers: &[i128], vertex: &Vertex) -> bool
     requires same { All (λ w. length w.cells ≡ length numbers.now) table.now.rows }
     requires small { All (λ w. All (λ e. unsigned_abs e ≤ table.now.limit) w.cells) table.now.rows }
     requires bound { table.now.limit * sizes numbers.now < 2 ^ 127 }
@@ -126,7 +128,7 @@ fn rows_follow(table: &Table, numbers: &[i128], vertex: &Vertex<Frac128>) -> boo
 }
 
 // The same, of numbers of 64 bits.
-fn narrow_rows_follow(table: &Table, numbers: &[i64], vertex: &Vertex<Frac128>) -> bool
+fn narrow_rows_follow(table: &Table, numbers: &[i64], vertex: &Vertex) -> bool
     requires same { All (λ w. length w.cells ≡ length numbers.now) table.now.rows }
     requires small { All (λ w. All (λ e. unsigned_abs e ≤ table.now.limit) w.cells) table.now.rows }
     requires bound { table.now.limit * sizes numbers.now < 2 ^ 127 }

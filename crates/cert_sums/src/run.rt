@@ -3,7 +3,6 @@
 ghost use Rattle.std.specs.Prelude.{◌≡◌, ◌<◌, ◌≤◌, ◌+◌, ℕ, All, IfSome, IsTrue, length, slice_get, Some};
 ghost use Rattle.rational_laws.specs.Fraction.{rational};
 ghost use Rattle.loss_model.specs.declared.process.Segment.{Segment as Piece};
-ghost use Rattle.frac_core.specs.declared.frac128.Frac128.{Frac128 as Fraction128};
 ghost use Rattle.frac_core.specs.Values.{value as value128};
 ghost use Rattle.cert_sums.specs.Tables.{IsTable};
 ghost use Rattle.cert_sums.specs.Ends.{low_dual, high_dual, DoMeet, IsBegun, IsEnded, IsHeldAt};
@@ -13,9 +12,9 @@ use crate::duals::End;
 use crate::ends::WholeProblem;
 use crate::reach::{Reach, reach_of};
 use crate::residuals::follow_sides;
+use crate::scale::is_same;
 use crate::segment_sums::{all_share, is_summed};
 use crate::slopes::{Tally, tally_of, turned, unsettled_rows};
-use frac_core::{Exact, Frac128};
 use loss_model::Segment;
 use std::alloc::Global;
 
@@ -27,13 +26,13 @@ fn width(whole: WholeProblem<'_>) -> usize
 }
 
 // What the sums of a segment come to at its low end: whether the dual values balance, and come to the loss stated there.
-fn begins(alloc: Global, whole: WholeProblem<'_>, segment: &Segment<Frac128>, tally: &Tally) -> bool
+fn begins(alloc: Global, whole: WholeProblem<'_>, segment: &Segment, tally: &Tally) -> bool
     requires table { IsTable whole.problem.now whole.table.now }
     requires tally { IsTally whole.table.now.rows (whole.problem.now.columns + 1) segment.now.vertex.sides tally.now }
     ensures { IsTrue result → IsBegun whole.entry.problem.now segment.now }
 {
     let end = End {
-        theta: segment.lo,
+        theta: &segment.lo,
         vertex: &segment.vertex,
         basic: &segment.basic_lo,
     };
@@ -45,7 +44,7 @@ fn begins(alloc: Global, whole: WholeProblem<'_>, segment: &Segment<Frac128>, ta
             tally,
             end,
             &reach,
-            segment.loss_lo,
+            &segment.loss_lo,
         ),
         None => false,
     }
@@ -55,16 +54,16 @@ fn begins(alloc: Global, whole: WholeProblem<'_>, segment: &Segment<Frac128>, ta
 fn ended(
     alloc: Global,
     whole: WholeProblem<'_>,
-    segment: &Segment<Frac128>,
+    segment: &Segment,
     tally: &Tally,
 ) -> Option<Reach>
     requires table { IsTable whole.problem.now whole.table.now }
     requires tally { IsTally whole.table.now.rows (whole.problem.now.columns + 1) segment.now.vertex.sides tally.now }
-    ensures reach { IfSome result (IsReach whole.entry.table.now.cost_limit (rational (value128 segment.now.hi))) }
+    ensures reach { IfSome result (IsReach whole.entry.table.now.cost_limit (rational segment.now.hi)) }
     ensures ended { IfSome result (λ _. IsEnded whole.entry.problem.now segment.now) }
 {
     let end = End {
-        theta: segment.hi,
+        theta: &segment.hi,
         vertex: &segment.vertex,
         basic: &segment.basic_hi,
     };
@@ -76,7 +75,7 @@ fn ended(
         tally,
         end,
         &reach,
-        segment.loss_hi,
+        &segment.loss_hi,
     ) {
         return None;
     }
@@ -87,22 +86,22 @@ fn ended(
 fn meet_in(
     whole: WholeProblem<'_>,
     list: &[usize],
-    segment: &Segment<Frac128>,
+    segment: &Segment,
     reach: &Reach,
-    next: &Segment<Frac128>,
+    next: &Segment,
 ) -> bool
     requires table { IsTable whole.problem.now whole.table.now }
-    requires reach { IsReach whole.table.now.cost_limit (rational (value128 segment.now.hi)) reach.now }
-    requires same { rational (value128 segment.now.hi) ≡ rational (value128 next.now.lo) }
+    requires reach { IsReach whole.table.now.cost_limit (rational segment.now.hi) reach.now }
+    requires same { rational segment.now.hi ≡ rational next.now.lo }
     ensures { IsTrue result → All (λ i. high_dual whole.entry.problem.now segment.now i ≡ low_dual whole.entry.problem.now next.now i) list.now }
 {
     let left = End {
-        theta: segment.hi,
+        theta: &segment.hi,
         vertex: &segment.vertex,
         basic: &segment.basic_hi,
     };
     let right = End {
-        theta: next.lo,
+        theta: &next.lo,
         vertex: &next.vertex,
         basic: &next.basic_lo,
     };
@@ -113,22 +112,22 @@ fn meet_in(
 fn goes_on(
     alloc: Global,
     whole: WholeProblem<'_>,
-    segment: &Segment<Frac128>,
+    segment: &Segment,
     tally: &Tally,
     reach: &Reach,
-    next: &Segment<Frac128>,
+    next: &Segment,
 ) -> Option<Tally>
     requires table { IsTable whole.problem.now whole.table.now }
     requires tally { IsTally whole.table.now.rows (whole.problem.now.columns + 1) segment.now.vertex.sides tally.now }
-    requires reach { IsReach whole.table.now.cost_limit (rational (value128 segment.now.hi)) reach.now }
+    requires reach { IsReach whole.table.now.cost_limit (rational segment.now.hi) reach.now }
     ensures meets { IfSome result (λ _. DoMeet whole.entry.problem.now segment.now next.now) }
-    ensures loss { IfSome result (λ _. rational (value128 segment.now.loss_hi) ≡ rational (value128 next.now.loss_lo)) }
+    ensures loss { IfSome result (λ _. rational segment.now.loss_hi ≡ rational next.now.loss_lo) }
     ensures tally { IfSome result (IsTally whole.entry.table.now.rows (whole.entry.problem.now.columns + 1) next.now.vertex.sides) }
 {
-    if !segment.loss_hi.compare(next.loss_lo).is_eq() {
+    if !is_same(&segment.loss_hi, &next.loss_lo) {
         return None;
     }
-    if !segment.hi.compare(next.lo).is_eq() {
+    if !is_same(&segment.hi, &next.lo) {
         return None;
     }
     let rows = whole.table.rows.as_slice();
@@ -147,15 +146,15 @@ fn goes_on(
 fn holds_at(
     alloc: Global,
     whole: WholeProblem<'_>,
-    segments: &[Segment<Frac128>],
+    segments: &[Segment],
     place: usize,
     tally: Tally,
 ) -> Option<Tally>
     requires table { IsTable whole.problem.now whole.table.now }
     requires within { place < length segments.now }
-    requires begun { (s : Piece Fraction128) → slice_get segments.now place ≡ Some s → IsCounted whole.problem.now whole.table.now tally s }
+    requires begun { (s : Piece) → slice_get segments.now place ≡ Some s → IsCounted whole.problem.now whole.table.now tally s }
     ensures held { IfSome result (λ _. IsHeldAt whole.entry.problem.now segments.now place) }
-    ensures next { IfSome result (λ made. (s : Piece Fraction128) → slice_get segments.now (place + 1) ≡ Some s → IsCounted whole.entry.problem.now whole.entry.table.now made s) }
+    ensures next { IfSome result (λ made. (s : Piece) → slice_get segments.now (place + 1) ≡ Some s → IsCounted whole.entry.problem.now whole.entry.table.now made s) }
 {
     let segment = &segments[place];
     if !follow_sides(alloc, whole.problem, whole.table, &segment.vertex) {
@@ -174,14 +173,14 @@ fn holds_at(
 fn run_from(
     alloc: Global,
     whole: WholeProblem<'_>,
-    segments: &[Segment<Frac128>],
+    segments: &[Segment],
     first: usize,
     past: usize,
     tally: Tally,
 ) -> bool
     requires table { IsTable whole.problem.now whole.table.now }
     requires within { past ≤ length segments.now }
-    requires begun { (s : Piece Fraction128) → slice_get segments.now first ≡ Some s → IsCounted whole.problem.now whole.table.now tally s }
+    requires begun { (s : Piece) → slice_get segments.now first ≡ Some s → IsCounted whole.problem.now whole.table.now tally s }
     ensures { IsTrue result → (j : ℕ) → j < past → first ≤ j → IsHeldAt whole.entry.problem.now segments.now j }
 {
     let mut current = tally;
@@ -206,7 +205,7 @@ fn lesser(count: usize, most: usize) -> usize
 }
 
 // The tally of a segment that begins as it should.
-fn counted(alloc: Global, whole: WholeProblem<'_>, segment: &Segment<Frac128>) -> Option<Tally>
+fn counted(alloc: Global, whole: WholeProblem<'_>, segment: &Segment) -> Option<Tally>
     requires { IsTable whole.problem.now whole.table.now }
     ensures { IfSome result (λ tally. IsCounted whole.entry.problem.now whole.entry.table.now tally segment.now) }
 {
@@ -223,7 +222,7 @@ fn counted(alloc: Global, whole: WholeProblem<'_>, segment: &Segment<Frac128>) -
 pub fn run_holds(
     alloc: Global,
     whole: WholeProblem<'_>,
-    segments: &[Segment<Frac128>],
+    segments: &[Segment],
     first: usize,
     past: usize,
 ) -> bool

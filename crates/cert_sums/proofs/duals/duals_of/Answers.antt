@@ -32,9 +32,9 @@ loop-i-preserved c =
     let here : slice_get t.rows i ≡ Some w = rw (← c.as_slice-rows.ensures) read in
     let is_at : whole at ≡ whole (pos scale) *ℚ rational (value128 c.args.end.theta) = c.in_ok-at.ensures {u = tt} in
     let plain : to_z w128 (of_z w128 at) ≡ at = search rules in
-    let is_dual : IsRowDual (side_in v i) w scale at ((whole (pos scale) *ℚ whole (pos t.cost_scale)) *ℚ basic_value value128 v basic i) e = rw (plain) at (c.in_ok-value.ensures {u = tt}) in
+    let is_dual : IsRowDual (side_in v i) w scale at ((whole (pos scale) *ℚ whole (pos t.cost_scale)) *ℚ basic_value v basic i) e = rw (plain) at (c.in_ok-value.ensures {u = tt}) in
     rw (grown) (record {
       size = length_pushed made e i c.loop-i.invariant.size;
       each = whole_pushed made e i (λ i. (whole (pos scale) *ℚ whole (pos t.cost_scale)) *ℚ dual_of (sample value128 p) (rational (value128 c.args.end.theta)) v basic i) c.loop-i.invariant.size c.loop-i.invariant.each
-          (row_value p t c.requires (rational (value128 c.args.end.theta)) (basic_value value128 v basic) i w here scale at is_at (side_in v i) e is_dual);
+          (row_value p t c.requires (rational (value128 c.args.end.theta)) (basic_value v basic) i w here scale at is_at (side_in v i) e is_dual);
     })

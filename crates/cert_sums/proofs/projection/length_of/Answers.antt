@@ -13,7 +13,7 @@ pub returns-clause-projection : goal.returns-clause-projection
 returns-clause-projection c =
     let s = sample value128 c.args.whole.problem.now in
     let t = c.args.interval.now in
-    let f = value_at value128 t.projection in
+    let f = number_at t.projection in
     let own : f t.column ≡ whole (pos 0)
     = ap (λ (xs : List Frac128). value_at value128 xs t.column) (sym c.as_slice.ensures) ∙ sym c.item_at.ensures ∙ c.is_zero.ensures.0 c.if-not-is_zero.false in
     projection s t.column f own (c.balances_but.ensures c.if-not-balances_but.false (λ i. s.up1 i *ℚ projected s t.column f i) (c.in_ok-left.ensures {u = tt}))
@@ -23,7 +23,7 @@ returns-clause-length c =
     let p = c.args.whole.problem.now in
     let s = sample value128 p in
     let t = c.args.interval.now in
-    let f = value_at value128 t.projection in
+    let f = number_at t.projection in
     let e : ℕ → ℚ = λ i. s.up1 i *ℚ projected s t.column f i in
     let within : t.column < p.columns = omega arith in
     let own : f t.column ≡ whole (pos 0)

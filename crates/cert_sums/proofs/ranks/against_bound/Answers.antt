@@ -16,5 +16,5 @@ returns c =
       projection = (c.in_ok-length.ensures {u = tt}).projection;
       value = found.value;
       order = c.in_ok-order.ensures {u = tt}
-          ∙ ap₂ (λ z q. cmp_ℚ (z *ℚ z) (rank_bound (rational (value128 t.tau)) (rational (value128 t.crit)) q)) found.value (c.in_ok-length.ensures {u = tt}).length;
+          ∙ ap₂ (λ z q. cmp_ℚ (z *ℚ z) (rank_bound (rational t.tau) (rational t.crit) q)) found.value (c.in_ok-length.ensures {u = tt}).length;
     }

@@ -9,4 +9,4 @@ use Rattle.cert_sums.proofs.ranks.rows_within.Given as goal
 
 abbrev pub invariant-loop-i : goal.invariant-loop-i
 invariant-loop-i l =
-    (i : ℕ) → i < l.i → IsWithinCosts (sample value128 l.problem) (rational (value128 l.end.theta)) (side_in l.end.vertex.now i) (basic_value value128 l.end.vertex.now l.end.basic.now i) i
+    (i : ℕ) → i < l.i → IsWithinCosts (sample value128 l.problem) (rational (value128 l.end.theta)) (side_in l.end.vertex.now i) (basic_value l.end.vertex.now l.end.basic.now i) i

@@ -12,7 +12,7 @@ returns-clause-held c =
     let p = c.args.whole.problem.now in
     let v = c.args.end.vertex.now in
     let theta = rational (value128 c.args.end.theta) in
-    let basic = basic_value value128 v c.args.end.basic.now in
+    let basic = basic_value v c.args.end.basic.now in
     record {
       within = λ i l. by_sides p theta basic i (side_in v i) (c.rows_within.ensures c.if-not-rows_within.false i l);
       balanced = c.balances_but.ensures c.if-not-balances_but.false (dual_of (sample value128 p) theta v c.args.end.basic.now) (c.in_ok-duals.ensures {u = tt});

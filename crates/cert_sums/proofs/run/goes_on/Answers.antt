@@ -19,7 +19,7 @@ returns-clause-meets c =
     let t = c.args.whole.table.now in
     let s = c.args.segment.now in
     let next = c.args.next.now in
-    let hi = rational (value128 s.hi) in
+    let hi = rational s.hi in
     let made : c.in_ok-unsettled.unsettled ≡ unsettled_rows s.vertex.sides next.vertex.sides (length t.rows)
     = rw (c.as_slice-old.ensures, c.as_slice-new.ensures, c.as_slice-rows.ensures) at (c.in_ok-unsettled.ensures {u = tt}) in
     met p s next (same_from_test hi (rational (value128 next.lo)) c.compare-2.result c.is_eq-2.result c.compare-2.ensures c.is_eq-2.ensures c.if-not-is_eq-2.false)

@@ -10,5 +10,5 @@ use Rattle.cert_sums.proofs.run.run_from.Given as goal
 abbrev pub invariant-loop-place : goal.invariant-loop-place
 invariant-loop-place l = record {
   held : (j : ℕ) → j < l.place → l.fn.first ≤ j → IsHeldAt l.whole.problem.now l.segments j;
-  begun : (s : Segment Frac128) → slice_get l.segments l.place ≡ Some s → IsCounted l.whole.problem.now l.whole.table.now l.current s;
+  begun : (s : Segment) → slice_get l.segments l.place ≡ Some s → IsCounted l.whole.problem.now l.whole.table.now l.current s;
 }
