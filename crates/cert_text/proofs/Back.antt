@@ -133,13 +133,13 @@ chain_is_linked s t ss = refl
 module _ (rows : ℕ) (few : rows ≤ 2 ^ 32) where
   either_full : (ss : List Segment) → All IsKeptSegment ss → All (SegmentHas (IsGood Long)) ss → either_segments rows (segments_tree false ss) ≡ Ok ss
   either_full ss kept has =
-      ap (λ b. (if b then linked_list (linked_segment Long rows) else list (segment Long None)) (segments_tree false ss)) (full_is_not_linked ss) ∙ full_back Long ss kept has
+      ap (λ b. if b then linked_list (linked_segment Long rows) (segments_tree false ss) else list (segment Long None) (segments_tree false ss)) (full_is_not_linked ss) ∙ full_back Long ss kept has
 
   either_chained : (ss : List Segment) → All IsKeptSegment ss → All (SegmentHas (IsGood Long)) ss → are_chained rows None ss ≡ true → either_segments rows (segments_tree true ss) ≡ Ok ss
   either_chained [] kept has chained = either_full [] kept has
   either_chained (s ∷ []) kept has chained = either_full (s ∷ []) kept has
   either_chained (s ∷ (t ∷ ss)) kept has chained =
-      ap (λ b. (if b then linked_list (linked_segment Long rows) else list (segment Long None)) (segments_tree true (s ∷ (t ∷ ss)))) (chain_is_linked s t ss)
+      ap (λ b. if b then linked_list (linked_segment Long rows) (segments_tree true (s ∷ (t ∷ ss))) else list (segment Long None) (segments_tree true (s ∷ (t ∷ ss)))) (chain_is_linked s t ss)
       ∙ chain_back rows Long (s ∷ (t ∷ ss)) few kept has chained
 
   -- the segments, as the certificate is narrow and chained or not

@@ -25,16 +25,16 @@ use Rattle.cert_text.proofs.PartsBack.{IsGood}
 -- ---- both of two properties
 
 module _ (P Q R : Fraction → Type 0) (both : (x : Fraction) → P x → Q x → R x) where
-  all_both : {xs : List Fraction} → All P xs → All Q xs → All R xs
-  all_both p q = λ k d l. both _ (p k d l) (q k d l)
+  all_both : (xs : List Fraction) → All P xs → All Q xs → All R xs
+  all_both xs p q = λ k d l. both _ (p k d l) (q k d l)
 
   segment_both : (s : Segment) → SegmentHas P s → SegmentHas Q s → SegmentHas R s
   segment_both s p q = record {
     lo = both _ p.lo q.lo;
     hi = both _ p.hi q.hi;
-    coef = all_both p.coef q.coef;
-    basic_lo = all_both p.basic_lo q.basic_lo;
-    basic_hi = all_both p.basic_hi q.basic_hi;
+    coef = all_both _ p.coef q.coef;
+    basic_lo = all_both _ p.basic_lo q.basic_lo;
+    basic_hi = all_both _ p.basic_hi q.basic_hi;
     loss_lo = both _ p.loss_lo q.loss_lo;
     loss_hi = both _ p.loss_hi q.loss_hi;
   }
@@ -44,14 +44,14 @@ module _ (P Q R : Fraction → Type 0) (both : (x : Fraction) → P x → Q x �
   bound_both Infinite p q = tt
 
   beyond_both : (b : Beyond) → BeyondHas P b → BeyondHas Q b → BeyondHas R b
-  beyond_both (Outside xs) p q = all_both p q
-  beyond_both (Ray xs) p q = all_both p q
+  beyond_both (Outside xs) p q = all_both xs p q
+  beyond_both (Ray xs) p q = all_both xs p q
 
   end_both : (e : End) → EndHas P e → EndHas Q e → EndHas R e
   end_both e p q = record {
     bound = bound_both e.bound p.bound q.bound;
-    coef = all_both p.coef q.coef;
-    inside = all_both p.inside q.inside;
+    coef = all_both _ p.coef q.coef;
+    inside = all_both _ p.inside q.inside;
     beyond = beyond_both e.beyond p.beyond q.beyond;
   }
 
@@ -61,7 +61,7 @@ module _ (P Q R : Fraction → Type 0) (both : (x : Fraction) → P x → Q x �
     crit = both _ p.crit q.crit;
     low = end_both t.low p.low q.low;
     high = end_both t.high p.high q.high;
-    projection = all_both p.projection q.projection;
+    projection = all_both _ p.projection q.projection;
   }
 
   cert_both : (c : Cert) → CertHas P c → CertHas Q c → CertHas R c

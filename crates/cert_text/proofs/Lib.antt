@@ -10,6 +10,8 @@ mod Lowest
 mod NarrowTexts
 mod LongTexts
 mod Strokes
+mod Signs
+mod Walked
 mod PartsBack
 mod Good
 mod ChainBack

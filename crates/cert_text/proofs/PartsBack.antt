@@ -1,5 +1,5 @@
 -- The trees of numbers, lists, rows and segments are read as these.
-use Rattle.std.proofs.Common.{◌≡◌, ℕ, ◌+◌, ◌-◌, ◌<◌, ◌≤◌, ◌^◌, All, true, unsigned_abs, List, [], ◌∷◌, Option, Some, None, Ok, Err, codes, map, option_and_then, option_map, if◌then◌else◌, refl, sym, ap, ◌∙◌, arith}
+use Rattle.std.proofs.Common.{◌≡◌, ℕ, ◌+◌, ◌-◌, ◌<◌, ◌≤◌, ◌^◌, All, true, unsigned_abs, nat_le, List, [], ◌∷◌, Option, Some, None, Ok, Err, codes, map, option_and_then, option_map, if◌then◌else◌, refl, sym, ap, ◌∙◌, arith}
 use Rattle.std.proofs.Math.Dec.{lit<}
 use Rattle.std.proofs.lemmas.Bool.{and_parts, lt-ltb}
 use Rattle.std.proofs.lemmas.Bool.Decides.{nat_tests}
@@ -96,7 +96,7 @@ pub record IsGood (width : Width) (x : Fraction) : Type 0 where
 
 narrow_back : (x : Fraction) → IsLowest x → is_narrow x ≡ true → option_map lowest (if_narrow (written (ratio_text x))) ≡ Some x
 narrow_back x h narrow =
-    let parts = and_parts _ _ narrow in
+    let parts = and_parts (nat_le (unsigned_abs x.num) (2 ^ 127 - 1)) (nat_le x.den (2 ^ 127 - 1)) narrow in
     let num : unsigned_abs x.num ≤ 2 ^ 127 - 1 = grind (arith, nat_tests) in
     let den : x.den ≤ 2 ^ 127 - 1 = grind (arith, nat_tests) in
     let most : 2 ^ 127 < 10 ^ 64 = lit< tt in

@@ -1,11 +1,11 @@
 //! Segments of which only what changes is written.
 
-ghost use Rattle.std.specs.Prelude.{◌≡◌, ◌≢◌, Ok, Err, codes, IfOk, IfErr};
+ghost use Rattle.std.specs.Prelude.{◌≡◌, ◌≢◌, Ok, Err, codes, map, IfOk, IfErr};
 ghost use Rattle.loss_model.specs.declared.process.Segment.{Segment as segment_type};
 ghost use Rattle.serde_json.specs.View.{view, members_view};
-ghost use Rattle.cert_text.specs.Chains.{high_places, low_places, moves_between, moved};
+ghost use Rattle.cert_text.specs.Chains.{high_places, low_places, moves_between, moved, side_at, values_at};
 ghost use Rattle.cert_text.specs.Kept.{IsKeptSegment};
-ghost use Rattle.cert_text.specs.Certificates.{if_as_many, later_members, later_segment, one_move};
+ghost use Rattle.cert_text.specs.Certificates.{if_as_many, later_members, later_segment, one_move, vertex_of};
 ghost use Rattle.cert_text.specs.Keys.{later_behind, later_from};
 ghost use Rattle.cert_text.specs.Reading.{field, fitting, list, no_more_keys, on_read};
 ghost use Rattle.cert_text.specs.Trees.{later_tree};
@@ -19,8 +19,8 @@ use crate::parts::put;
 use crate::path::{under_key, wrong_kind};
 use crate::place::{Place, places, sides, values};
 use crate::vertex::{Sides, vertex};
-use frac_core::List;
-use loss_model::Segment;
+use frac_core::{List, OutOfMemory};
+use loss_model::{Segment, Vertex};
 use ratio::Ratio;
 use serde_json::{Map, Value};
 use std::alloc::{AllocError, Global};
@@ -146,6 +146,45 @@ fn whole_later(
     Ok(())
 }
 
+// The quantile and the loss where a segment begins, which are those where the one before it ends.
+#[derive(Drop)]
+struct Ends {
+    lo: Ratio,
+    loss_lo: Ratio,
+}
+
+fn ends_of(alloc: Global, before: &Segment) -> Result<Ends, OutOfMemory>
+    ensures lo { IfOk result (λ ends. ends.lo ≡ before.now.hi) }
+    ensures loss { IfOk result (λ ends. ends.loss_lo ≡ before.now.loss_hi) }
+{
+    let lo = before.hi.copy(alloc)?;
+    let loss_lo = before.loss_hi.copy(alloc)?;
+    Ok(Ends { lo, loss_lo })
+}
+
+// What a segment has at its low end.
+#[derive(Drop)]
+struct Low {
+    vertex: Vertex,
+    basic: List<Ratio>,
+}
+
+// The vertex with the rows where they are told to lie, and their dual values.
+fn low_of(
+    alloc: Global,
+    low: &List<Place<Ratio>>,
+    coef: List<Ratio>,
+) -> Result<Low, CertFault>
+    ensures vertex { IfOk result (λ l. l.vertex ≡ vertex_of (map side_at low.now) coef) }
+    ensures basic { IfOk result (λ l. l.basic ≡ values_at low.now) }
+    ensures memory { IfErr result (λ e. e ≡ CertFault.OutOfMemory) }
+{
+    let sides = Sides(sides(alloc, low)?);
+    let vertex = vertex(alloc, sides, coef)?;
+    let basic = values(alloc, low)?;
+    Ok(Low { vertex, basic })
+}
+
 impl LaterKeys {
     // The segment behind another one, with the rows at its low end where they are told to lie.
     fn segment(
@@ -158,27 +197,16 @@ impl LaterKeys {
         ensures kept { IfOk result IsKeptSegment }
         ensures memory { IfErr result (λ e. e ≡ CertFault.OutOfMemory) }
     {
-        let LaterKeys {
-            basic_hi,
-            coef,
-            hi,
-            loss_hi,
-            moves,
-        } = self;
-        drop(moves);
-        let sides = Sides(sides(alloc, low)?);
-        let vertex = vertex(alloc, sides, coef)?;
-        let basic_lo = values(alloc, low)?;
-        let lo = before.hi.copy(alloc)?;
-        let loss_lo = before.loss_hi.copy(alloc)?;
+        let ends = ends_of(alloc, before)?;
+        let low = low_of(alloc, low, self.coef)?;
         Ok(Segment {
-            lo,
-            hi,
-            vertex,
-            basic_lo,
-            basic_hi,
-            loss_lo,
-            loss_hi,
+            lo: ends.lo,
+            hi: self.hi,
+            vertex: low.vertex,
+            basic_lo: low.basic,
+            basic_hi: self.basic_hi,
+            loss_lo: ends.loss_lo,
+            loss_hi: self.loss_hi,
         })
     }
 }

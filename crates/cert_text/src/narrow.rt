@@ -37,9 +37,8 @@ fn are_narrow(numbers: &[Ratio]) -> bool
 {
     let mut all = true;
     for number in numbers {
-        if !is_narrow(number) {
-            all = false;
-        }
+        let here = is_narrow(number);
+        all = both(all, here);
     }
     all
 }
@@ -72,9 +71,8 @@ fn segments_are_narrow(segments: &[Segment]) -> bool
 {
     let mut all = true;
     for segment in segments {
-        if !segment_is_narrow(segment) {
-            all = false;
-        }
+        let here = segment_is_narrow(segment);
+        all = both(all, here);
     }
     all
 }
@@ -128,9 +126,8 @@ fn intervals_are_narrow(intervals: &[IntervalProof]) -> bool
 {
     let mut all = true;
     for interval in intervals {
-        if !interval_is_narrow(interval) {
-            all = false;
-        }
+        let here = interval_is_narrow(interval);
+        all = both(all, here);
     }
     all
 }
