@@ -7,8 +7,8 @@ use Rattle.cert_text.proofs.narrow.are_narrow.Goals as goal
 
 pub loop-number-preserved : goal.loop-number-preserved
 loop-number-preserved c =
-    walked_more IsLowest is_narrow are_narrow refl (λ x xs. refl) c.args.numbers.now c.loop-number.number-index c.number-item.result c.loop-number.all c.is_narrow.result c.both.result
-    c.loop-number-test.true c.number-item.is c.loop-number.invariant c.is_narrow.ensures.value c.is_narrow.ensures.lowest c.both.ensures
+    walked_more IsLowest is_narrow are_narrow refl (λ x xs. refl) c.args.numbers.now c.loop-number.number-index c.number-item.result c.loop-number.all c.is_narrow-here.result c.both-all.result
+    c.loop-number-test.true c.number-item.is c.loop-number.invariant c.is_narrow-here.ensures.value c.is_narrow-here.ensures.lowest c.both-all.ensures
 
 pub returns-clause-value : goal.returns-clause-value
 returns-clause-value c =

@@ -7,8 +7,8 @@ use Rattle.cert_text.proofs.narrow.intervals_are_narrow.Goals as goal
 
 pub loop-interval-preserved : goal.loop-interval-preserved
 loop-interval-preserved c =
-    walked_more (IntervalHas IsLowest) interval_is_narrow intervals_are_narrow refl (λ x xs. refl) c.args.intervals.now c.loop-interval.interval-index c.interval-item.result c.loop-interval.all c.interval_is_narrow.result c.both.result
-    c.loop-interval-test.true c.interval-item.is c.loop-interval.invariant c.interval_is_narrow.ensures.value c.interval_is_narrow.ensures.lowest c.both.ensures
+    walked_more (IntervalHas IsLowest) interval_is_narrow intervals_are_narrow refl (λ x xs. refl) c.args.intervals.now c.loop-interval.interval-index c.interval-item.result c.loop-interval.all c.interval_is_narrow-here.result c.both-all.result
+    c.loop-interval-test.true c.interval-item.is c.loop-interval.invariant c.interval_is_narrow-here.ensures.value c.interval_is_narrow-here.ensures.lowest c.both-all.ensures
 
 pub returns-clause-value : goal.returns-clause-value
 returns-clause-value c =

@@ -7,8 +7,8 @@ use Rattle.cert_text.proofs.narrow.segments_are_narrow.Goals as goal
 
 pub loop-segment-preserved : goal.loop-segment-preserved
 loop-segment-preserved c =
-    walked_more (SegmentHas IsLowest) segment_is_narrow segments_are_narrow refl (λ x xs. refl) c.args.segments.now c.loop-segment.segment-index c.segment-item.result c.loop-segment.all c.segment_is_narrow.result c.both.result
-    c.loop-segment-test.true c.segment-item.is c.loop-segment.invariant c.segment_is_narrow.ensures.value c.segment_is_narrow.ensures.lowest c.both.ensures
+    walked_more (SegmentHas IsLowest) segment_is_narrow segments_are_narrow refl (λ x xs. refl) c.args.segments.now c.loop-segment.segment-index c.segment-item.result c.loop-segment.all c.segment_is_narrow-here.result c.both-all.result
+    c.loop-segment-test.true c.segment-item.is c.loop-segment.invariant c.segment_is_narrow-here.ensures.value c.segment_is_narrow-here.ensures.lowest c.both-all.ensures
 
 pub returns-clause-value : goal.returns-clause-value
 returns-clause-value c =
