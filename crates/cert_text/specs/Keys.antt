@@ -19,7 +19,6 @@ use Rattle.cert_text.specs.declared.layout.Layout.{Layout}
 use Rattle.cert_text.specs.declared.layout.Width.{Width}
 use Rattle.cert_text.specs.declared.place.Place.{Place}
 use Rattle.cert_text.specs.declared.read.TopKeys.{TopKeys}
-use Rattle.cert_text.specs.declared.segment.BackKeys.{BackKeys}
 use Rattle.cert_text.specs.declared.segment.FrontKeys.{FrontKeys}
 use Rattle.cert_text.specs.declared.segment.SegmentKeys.{SegmentKeys}
 use Rattle.cert_text.specs.declared.later.LaterKeys.{LaterKeys}
@@ -27,53 +26,52 @@ use Rattle.cert_text.specs.declared.interval.FiniteKeys.{FiniteKeys}
 use Rattle.cert_text.specs.declared.interval.InfiniteKeys.{InfiniteKeys}
 use Rattle.cert_text.specs.declared.interval.ProjectionKeys.{ProjectionKeys}
 
+-- the segment of these keys
+abbrev pub segment_from : SegmentKeys → Segment
+segment_from k = record {
+  lo = k.back.ends.second;
+  hi = k.back.ends.first;
+  vertex = vertex_of k.back.sides.0 k.front.coef;
+  basic_lo = k.front.basic_lo;
+  basic_hi = k.front.basic_hi;
+  loss_lo = k.back.losses.second;
+  loss_hi = k.back.losses.first;
+}
+
 -- a segment of these keys, with these members behind them
 abbrev pub segment_behind : Option ℕ → SegmentKeys → Members → Reading Segment
 segment_behind rows k ms =
-    on_read (fitting (codes "sides") (if_filled rows k.sides.0 k.basic_lo k.basic_hi)) (λ _.
+    on_read (fitting (codes "sides") (if_filled rows k.back.sides.0 k.front.basic_lo k.front.basic_hi)) (λ _.
     on_read (no_more_keys ms) (λ _.
-    Ok (record {
-      lo = k.lo;
-      hi = k.hi;
-      vertex = vertex_of k.sides.0 k.coef;
-      basic_lo = k.basic_lo;
-      basic_hi = k.basic_hi;
-      loss_lo = k.loss_lo;
-      loss_hi = k.loss_hi;
-    })))
+    Ok (segment_from k)))
 
--- both parts of its keys
-abbrev pub joined_keys : FrontKeys → BackKeys → SegmentKeys
-joined_keys front back = record {
-  basic_hi = front.basic_hi;
-  basic_lo = front.basic_lo;
-  coef = front.coef;
-  hi = back.hi;
-  lo = back.lo;
-  loss_hi = back.loss_hi;
-  loss_lo = back.loss_lo;
-  sides = back.sides;
-}
+-- what is read behind two numbers
+abbrev pub two_ratios : Width → List ℕ → List ℕ → Members → (Fraction → Fraction → Members → Reading Segment) → Reading Segment
+two_ratios width first second ms behind =
+    on_read (field first (ratio width) ms) (λ a. on_read (field second (ratio width) a.1) (λ b. behind a.0 b.0 b.1))
 
--- a segment whose first keys these are, with these members behind them
-abbrev pub segment_behind_front : Width → Option ℕ → FrontKeys → Members → Reading Segment
-segment_behind_front width rows front ms =
-    on_read (field (codes "hi") (ratio width) ms) (λ hi.
-    on_read (field (codes "lo") (ratio width) hi.1) (λ lo.
-    on_read (field (codes "loss_hi") (ratio width) lo.1) (λ loss_hi.
-    on_read (field (codes "loss_lo") (ratio width) loss_hi.1) (λ loss_lo.
-    on_read (field (codes "sides") sides loss_lo.1) (λ signs.
+-- a segment of these numbers, with these members behind them
+abbrev pub behind_losses : Option ℕ → FrontKeys → Fraction → Fraction → Fraction → Fraction → Members → Reading Segment
+behind_losses rows front hi lo loss_hi loss_lo ms =
+    on_read (field (codes "sides") sides ms) (λ signs.
     on_read (fitting (codes "sides") (if_filled rows signs.0 front.basic_lo front.basic_hi)) (λ _.
     on_read (no_more_keys signs.1) (λ _.
     Ok (record {
-      lo = lo.0;
-      hi = hi.0;
+      lo = lo;
+      hi = hi;
       vertex = vertex_of signs.0 front.coef;
       basic_lo = front.basic_lo;
       basic_hi = front.basic_hi;
-      loss_lo = loss_lo.0;
-      loss_hi = loss_hi.0;
-    }))))))))
+      loss_lo = loss_lo;
+      loss_hi = loss_hi;
+    }))))
+
+abbrev pub behind_ends : Width → Option ℕ → FrontKeys → Fraction → Fraction → Members → Reading Segment
+behind_ends width rows front hi lo ms = two_ratios width (codes "loss_hi") (codes "loss_lo") ms (behind_losses rows front hi lo)
+
+-- a segment whose first keys these are, with these members behind them
+abbrev pub segment_behind_front : Width → Option ℕ → FrontKeys → Members → Reading Segment
+segment_behind_front width rows front ms = two_ratios width (codes "hi") (codes "lo") ms (behind_ends width rows front)
 
 -- the segment of these keys behind another one, whose rows lie here at its low end
 abbrev pub later_from : Segment → LaterKeys → List (Place Fraction) → Segment

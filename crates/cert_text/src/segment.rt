@@ -2,11 +2,14 @@
 
 ghost use Rattle.std.specs.Prelude.{◌≡◌, ◌≢◌, ℕ, Option, Ok, Err, Some, None, if◌then◌else◌, IfOk, IfErr};
 ghost use Rattle.loss_model.specs.declared.process.Segment.{Segment as segment_type};
+ghost use Rattle.rational_laws.specs.Fraction.{Fraction};
+ghost use Rattle.serde_json.specs.Data.{Members};
 ghost use Rattle.serde_json.specs.View.{view, members_view};
+ghost use Rattle.cert_text.specs.Reading.{Reading};
 ghost use Rattle.cert_text.specs.Chains.{is_filled};
 ghost use Rattle.cert_text.specs.Kept.{IsKeptSegment};
 ghost use Rattle.cert_text.specs.Certificates.{if_filled, segment_members, segment};
-ghost use Rattle.cert_text.specs.Keys.{segment_behind, segment_behind_front, joined_keys};
+ghost use Rattle.cert_text.specs.Keys.{segment_behind, segment_behind_front, segment_from, two_ratios};
 ghost use Rattle.cert_text.specs.declared.segment.FrontKeys.{FrontKeys};
 ghost use Rattle.cert_text.specs.Trees.{segment_tree};
 
@@ -17,24 +20,18 @@ use crate::numbers::ratios;
 use crate::parts::{FromJson, ToJson, put};
 use crate::path::{under_key, wrong_kind};
 use crate::vertex::{Sides, Signs, vertex};
-use frac_core::List;
+use frac_core::{List, OutOfMemory};
 use loss_model::Segment;
 use ratio::Ratio;
 use serde_json::{Map, Value};
 use std::alloc::{AllocError, Global};
 use std::collections::btree_map::Iter;
 
-// The keys of a segment in full.
+// The keys of a segment in full, in two parts, so that the lists are let go once, and not behind each key.
 #[derive(Drop)]
 struct SegmentKeys {
-    basic_hi: List<Ratio>,
-    basic_lo: List<Ratio>,
-    coef: List<Ratio>,
-    hi: Ratio,
-    lo: Ratio,
-    loss_hi: Ratio,
-    loss_lo: Ratio,
-    sides: Sides,
+    front: FrontKeys,
+    back: BackKeys,
 }
 
 // The first of them, which are lists.
@@ -45,13 +42,18 @@ struct FrontKeys {
     coef: List<Ratio>,
 }
 
-// Those behind them.
+// Two numbers.
+#[derive(Drop)]
+struct Two {
+    first: Ratio,
+    second: Ratio,
+}
+
+// Those behind them: the quantiles and the losses at the high and the low end, and the sides.
 #[derive(Drop)]
 struct BackKeys {
-    hi: Ratio,
-    lo: Ratio,
-    loss_hi: Ratio,
-    loss_lo: Ratio,
+    ends: Two,
+    losses: Two,
     sides: Sides,
 }
 
@@ -74,29 +76,56 @@ fn front_keys(
     })
 }
 
+// The numbers that the next two keys have, which must be these.
+fn two_ratios(
+    alloc: Global,
+    width: Width,
+    first: &str,
+    second: &str,
+    rest: &mut Iter<'_, String, Value>,
+) -> Result<Two, CertFault>
+    ensures ok { IfOk result (λ two. (behind : Fraction → Fraction → Members → Reading segment_type) → two_ratios width first.now second.now (members_view rest.old) behind ≡ behind two.first two.second (members_view rest.new)) }
+    ensures err { IfErr result (λ e. e ≢ CertFault.OutOfMemory → (behind : Fraction → Fraction → Members → Reading segment_type) → two_ratios width first.now second.now (members_view rest.old) behind ≡ Err e) }
+{
+    let first: Ratio = field(alloc, width, first, rest)?;
+    match field(alloc, width, second, rest) {
+        Ok(second) => Ok(Two { first, second }),
+        Err(fault) => {
+            drop(first);
+            Err(fault)
+        }
+    }
+}
+
 fn back_keys(
     alloc: Global,
     width: Width,
     rest: &mut Iter<'_, String, Value>,
 ) -> Result<BackKeys, CertFault>
-    ensures ok { IfOk result (λ k. (rows : Option ℕ) → (front : FrontKeys) → segment_behind_front width rows front (members_view rest.old) ≡ segment_behind rows (joined_keys front k) (members_view rest.new)) }
+    ensures ok { IfOk result (λ k. (rows : Option ℕ) → (front : FrontKeys) → segment_behind_front width rows front (members_view rest.old) ≡ segment_behind rows (record { front = front; back = k }) (members_view rest.new)) }
     ensures err { IfErr result (λ e. e ≢ CertFault.OutOfMemory → (rows : Option ℕ) → (front : FrontKeys) → segment_behind_front width rows front (members_view rest.old) ≡ Err e) }
 {
-    let hi = field(alloc, width, "hi", rest)?;
-    let lo = field(alloc, width, "lo", rest)?;
-    let loss_hi = field(alloc, width, "loss_hi", rest)?;
-    let loss_lo = field(alloc, width, "loss_lo", rest)?;
-    let sides = field(alloc, width, "sides", rest)?;
-    Ok(BackKeys {
-        hi,
-        lo,
-        loss_hi,
-        loss_lo,
-        sides,
-    })
+    let ends = two_ratios(alloc, width, "hi", "lo", rest)?;
+    match two_ratios(alloc, width, "loss_hi", "loss_lo", rest) {
+        Ok(losses) => match field(alloc, width, "sides", rest) {
+            Ok(sides) => Ok(BackKeys {
+                ends,
+                losses,
+                sides,
+            }),
+            Err(fault) => {
+                drop(ends);
+                drop(losses);
+                Err(fault)
+            }
+        },
+        Err(fault) => {
+            drop(ends);
+            Err(fault)
+        }
+    }
 }
 
-// Read in two parts, so that the lists are let go once, and not behind each key.
 fn segment_keys(
     alloc: Global,
     width: Width,
@@ -107,19 +136,48 @@ fn segment_keys(
 {
     let front = front_keys(alloc, width, rest)?;
     match back_keys(alloc, width, rest) {
-        Ok(back) => Ok(SegmentKeys {
-            basic_hi: front.basic_hi,
-            basic_lo: front.basic_lo,
-            coef: front.coef,
-            hi: back.hi,
-            lo: back.lo,
-            loss_hi: back.loss_hi,
-            loss_lo: back.loss_lo,
-            sides: back.sides,
-        }),
+        Ok(back) => Ok(SegmentKeys { front, back }),
         Err(fault) => {
             drop(front);
             Err(fault)
+        }
+    }
+}
+
+impl SegmentKeys {
+    // The segment of these keys.
+    fn segment(self, alloc: Global) -> Result<Segment, OutOfMemory>
+        ensures segment { IfOk result (λ s. s ≡ segment_from self) }
+        ensures kept { IfOk result IsKeptSegment }
+    {
+        let SegmentKeys { front, back } = self;
+        let FrontKeys {
+            basic_hi,
+            basic_lo,
+            coef,
+        } = front;
+        let BackKeys {
+            ends,
+            losses,
+            sides,
+        } = back;
+        match vertex(alloc, sides, coef) {
+            Ok(vertex) => Ok(Segment {
+                lo: ends.second,
+                hi: ends.first,
+                vertex,
+                basic_lo,
+                basic_hi,
+                loss_lo: losses.second,
+                loss_hi: losses.first,
+            }),
+            Err(OutOfMemory) => {
+                drop(basic_hi);
+                drop(basic_lo);
+                drop(ends);
+                drop(losses);
+                Err(OutOfMemory)
+            }
         }
     }
 }
@@ -135,15 +193,7 @@ fn segment_of(
     ensures err { IfErr result (λ e. e ≢ CertFault.OutOfMemory → segment_members width rows (members_view rest.old) ≡ Err e) }
 {
     let keys = segment_keys(alloc, width, rest)?;
-    let segment = Segment {
-        lo: keys.lo,
-        hi: keys.hi,
-        vertex: vertex(alloc, keys.sides, keys.coef)?,
-        basic_lo: keys.basic_lo,
-        basic_hi: keys.basic_hi,
-        loss_lo: keys.loss_lo,
-        loss_hi: keys.loss_hi,
-    };
+    let segment = keys.segment(alloc)?;
     if !is_filled_if_told(rows, &segment) {
         drop(segment);
         return Err(under_key(alloc, "sides", wrong_kind(alloc)));
