@@ -128,12 +128,7 @@ fn agree(left: &Duals, right: &Duals) -> bool
 }
 
 /// Whether each row has the same dual value at the high end of a segment and at the low end of the next one.
-pub fn duals_meet(
-    alloc: Global,
-    whole: WholeProblem<'_>,
-    segment: &Segment,
-    next: &Segment,
-) -> bool
+pub fn duals_meet(alloc: Global, whole: WholeProblem<'_>, segment: &Segment, next: &Segment) -> bool
     requires { IsTable whole.problem.now whole.table.now }
     ensures { IsTrue result → DoMeet whole.entry.problem.now segment.now next.now }
 {

@@ -40,12 +40,7 @@ fn left_factor(factor: Frac128, own: bool) -> Option<Frac128>
 }
 
 // Those numbers times a scale, and behind them 0 for the response.
-fn left_factors(
-    alloc: Global,
-    factors: &[Ratio],
-    column: usize,
-    scale: u128,
-) -> Option<List<i128>>
+fn left_factors(alloc: Global, factors: &[Ratio], column: usize, scale: u128) -> Option<List<i128>>
     ensures size { IfSome result (λ made. length made ≡ length factors.now + 1) }
     ensures each { IfSome result (λ made. (k : ℕ) → k < length factors.now → whole_at made k ≡ whole (pos scale) *ℚ (delta k column -ℚ number_at factors.now k)) }
     ensures last { IfSome result (λ made. whole_at made (length factors.now) ≡ whole (pos 0)) }

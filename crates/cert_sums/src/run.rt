@@ -51,12 +51,7 @@ fn begins(alloc: Global, whole: WholeProblem<'_>, segment: &Segment, tally: &Tal
 }
 
 // The quantile at its high end, where they balance and come to the loss stated there.
-fn ended(
-    alloc: Global,
-    whole: WholeProblem<'_>,
-    segment: &Segment,
-    tally: &Tally,
-) -> Option<Reach>
+fn ended(alloc: Global, whole: WholeProblem<'_>, segment: &Segment, tally: &Tally) -> Option<Reach>
     requires table { IsTable whole.problem.now whole.table.now }
     requires tally { IsTally whole.table.now.rows (whole.problem.now.columns + 1) segment.now.vertex.sides tally.now }
     ensures reach { IfSome result (IsReach whole.entry.table.now.cost_limit (rational segment.now.hi)) }

@@ -1,5 +1,5 @@
 -- The tree of a certificate is read as that certificate.
-use Rattle.std.proofs.Common.{◌≡◌, ℕ, ◌≤◌, ◌*◌, ◌^◌, All, Bool, List, [], ◌∷◌, Some, None, Ok, Err, codes, length, map, nat_lt, true, false, if◌then◌else◌, refl, sym, ap, ap₂, subst, ◌∙◌, arith}
+use Rattle.std.proofs.Common.{◌≡◌, ℕ, ◌≤◌, ◌*◌, ◌^◌, All, Bool, List, [], ◌∷◌, Some, None, Ok, Err, codes, length, map, nat_lt, true, false, if◌then◌else◌, refl, sym, ap, subst, ◌∙◌, arith}
 use Rattle.std.proofs.lemmas.List.{length-map, map-id}
 use Rattle.std.proofs.lemmas.Bool.{le-ltb}
 use Rattle.rational_laws.specs.Fraction.{Fraction}

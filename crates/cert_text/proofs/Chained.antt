@@ -1,14 +1,13 @@
 -- Chains that are tested segment by segment.
-use Rattle.std.proofs.Common.{◌≡◌, ℕ, ◌+◌, ◌<◌, ◌≤◌, Bool, true, ◌&&◌, ◌==◌, List, [], ◌∷◌, ◌++◌, Some, None, length, map, option_map, drop, take, get_or, refl, sym, ap, ap₂, ◌∙◌, append_assoc}
+use Rattle.std.proofs.Common.{◌≡◌, ℕ, ◌+◌, ◌<◌, ◌≤◌, Bool, true, ◌&&◌, List, [], ◌∷◌, ◌++◌, Some, None, length, map, drop, take, get_or, refl, sym, ap, ap₂, ◌∙◌, append_assoc}
 use Rattle.std.specs.List.{last_or}
-use Rattle.std.proofs.lemmas.List.{drop_more, drop_all, length-map, map_push}
+use Rattle.std.proofs.lemmas.List.{drop_more, drop_all, map_push}
 use Rattle.rational_laws.specs.Fraction.{Fraction}
 use Rattle.loss_model.specs.declared.process.Segment.{Segment}
 use Rattle.serde_json.specs.View.{view}
 use Rattle.serde_json.specs.declared.value.Value.{Value}
 use Rattle.cert_text.specs.Trees.{linked_tree, linked_trees}
 use Rattle.cert_text.specs.Chains.{high_places, low_places, keeps_value, keep_values, is_filled, follows_any, are_chained}
-use Rattle.cert_text.specs.Kept.{basic_rows}
 use Rattle.cert_text.specs.declared.place.Place.{Place}
 use Rattle.cert_text.proofs.Lists.{first_items, last_pushed}
 

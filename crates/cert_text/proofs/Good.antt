@@ -1,5 +1,5 @@
 -- All numbers of a certificate are read back: within 127 bits where none is wider, else those of few digits.
-use Rattle.std.proofs.Common.{◌≡◌, ◌&&◌, All, Bool, true, false, List, [], ◌∷◌, refl}
+use Rattle.std.proofs.Common.{◌≡◌, All, Bool, true, false, List, [], ◌∷◌, refl}
 use Rattle.std.proofs.lemmas.Bool.{and_parts}
 use Rattle.std.proofs.lemmas.List.Elements.{All-cons, All-nil}
 use Rattle.rational_laws.specs.Fraction.{Fraction}
@@ -18,7 +18,6 @@ use Rattle.cert_text.specs.Numbers.{AreLowest, BeyondHas, BoundHas, CertHas, End
 use Rattle.cert_text.specs.Ratios.{is_narrow}
 use Rattle.cert_text.specs.Trees.{layout, layout_for}
 use Rattle.cert_text.specs.declared.cert.Cert.{Cert}
-use Rattle.cert_text.specs.declared.layout.Width.{Width}
 use Rattle.cert_text.specs.declared.layout.Width.TheVariants.{Narrow, Long}
 use Rattle.cert_text.proofs.PartsBack.{IsGood}
 

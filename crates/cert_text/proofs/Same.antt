@@ -1,5 +1,5 @@
 -- Certificates that say the same are the same.
-use Rattle.std.proofs.Common.{◌≡◌, ◌-◌, All, List, map, refl, ap}
+use Rattle.std.proofs.Common.{◌≡◌, All, List, map, ap}
 use Rattle.std.proofs.Props.{props}
 use mathlib.Core.Path.{PathP}
 use mathlib.Core.HLevel.{is_prop→PathP}

@@ -1,5 +1,5 @@
 -- Stated. What holds of each number of the segments and the intervals of a certificate.
-use Rattle.std.specs.Prelude.{ℕ, ◌≤◌, ◌&&◌, Bool, true, false, List, [], ◌∷◌, All, length, unsigned_abs, ⊤}
+use Rattle.std.specs.Prelude.{◌≤◌, ◌&&◌, Bool, true, List, [], ◌∷◌, All, length, unsigned_abs, ⊤}
 use Rattle.rational_laws.specs.Fraction.{Fraction}
 use Rattle.natural.specs.Decimal.{decimal_text}
 use Rattle.ratio.specs.Lowest.{IsLowest}

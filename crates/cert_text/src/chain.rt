@@ -60,11 +60,7 @@ fn keep_values(before: &[Place<Ratio>], now: &[Place<Ratio>]) -> bool
     true
 }
 
-fn follows(
-    alloc: Global,
-    before: &Segment,
-    segment: &Segment,
-) -> Result<bool, AllocError>
+fn follows(alloc: Global, before: &Segment, segment: &Segment) -> Result<bool, AllocError>
     ensures { IfOk result (λ b. b ≡ follows before.now segment.now) }
 {
     if !is_equal(&before.hi, &segment.lo) {

@@ -186,11 +186,7 @@ fn infinite_of(
 }
 
 #[tactic(auto, unfolding(crate::specs::Certificates::end_members))]
-fn end_of(
-    alloc: Global,
-    width: Width,
-    rest: &mut Iter<'_, String, Value>,
-) -> Result<End, CertFault>
+fn end_of(alloc: Global, width: Width, rest: &mut Iter<'_, String, Value>) -> Result<End, CertFault>
     ensures ok { IfOk result (λ e. end_members width (members_view rest.old) ≡ Ok e) }
     ensures kept { IfOk result IsKeptEnd }
     ensures err { IfErr result (λ e. e ≢ CertFault.OutOfMemory → end_members width (members_view rest.old) ≡ Err e) }
@@ -347,11 +343,7 @@ fn finite_to_json(
 }
 
 #[tactic(auto, unfolding(crate::specs::Trees::end_tree))]
-fn infinite_to_json(
-    alloc: Global,
-    end: &End,
-    ray: &List<Ratio>,
-) -> Result<Value, AllocError>
+fn infinite_to_json(alloc: Global, end: &End, ray: &List<Ratio>) -> Result<Value, AllocError>
     requires bound { end.now.bound ≡ Infinite }
     requires beyond { end.now.beyond ≡ Ray ray.now }
     ensures { IfOk result (λ v. view v ≡ end_tree end.now) }

@@ -27,10 +27,7 @@ use std::alloc::{AllocError, Global};
 use std::collections::btree_map::Iter;
 
 /// Where the rows lie at the low end of a segment.
-pub(crate) fn low_places(
-    alloc: Global,
-    segment: &Segment,
-) -> Result<Vec<Place<Ratio>>, AllocError>
+pub(crate) fn low_places(alloc: Global, segment: &Segment) -> Result<Vec<Place<Ratio>>, AllocError>
     ensures { IfOk result (λ ps. ps.items ≡ low_places segment.now) }
 {
     places(
@@ -41,10 +38,7 @@ pub(crate) fn low_places(
 }
 
 /// Where the rows lie at the high end of a segment.
-pub(crate) fn high_places(
-    alloc: Global,
-    segment: &Segment,
-) -> Result<Vec<Place<Ratio>>, AllocError>
+pub(crate) fn high_places(alloc: Global, segment: &Segment) -> Result<Vec<Place<Ratio>>, AllocError>
     ensures { IfOk result (λ ps. ps.items ≡ high_places segment.now) }
 {
     places(
@@ -170,11 +164,7 @@ struct Low {
 }
 
 // The vertex with the rows where they are told to lie, and their dual values.
-fn low_of(
-    alloc: Global,
-    low: &List<Place<Ratio>>,
-    coef: List<Ratio>,
-) -> Result<Low, CertFault>
+fn low_of(alloc: Global, low: &List<Place<Ratio>>, coef: List<Ratio>) -> Result<Low, CertFault>
     ensures vertex { IfOk result (λ l. l.vertex ≡ vertex_of (map side_at low.now) coef) }
     ensures basic { IfOk result (λ l. l.basic ≡ values_at low.now) }
     ensures memory { IfErr result (λ e. e ≡ CertFault.OutOfMemory) }

@@ -68,11 +68,7 @@ pub(crate) fn put<T: ToJson>(
     serde_json::put(object, alloc, key, value)
 }
 
-fn items<T: FromJson>(
-    alloc: Global,
-    width: Width,
-    values: &[Value],
-) -> Result<Vec<T>, CertFault>
+fn items<T: FromJson>(alloc: Global, width: Width, values: &[Value]) -> Result<Vec<T>, CertFault>
     ensures ok { IfOk result (λ xs. items_from (λ before. T.reader width) None 0 (items_view values.now) ≡ Ok (map T.content xs.items)) }
     ensures kept { IfOk result (λ xs. All T.IsKept xs.items) }
     ensures err { IfErr result (λ e. e ≢ CertFault.OutOfMemory → items_from (λ before. T.reader width) None 0 (items_view values.now) ≡ Err e) }

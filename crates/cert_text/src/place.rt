@@ -106,10 +106,7 @@ pub(crate) fn sides(alloc: Global, places: &List<Place<Ratio>>) -> Result<List<S
 }
 
 /// The dual values of the rows that are on the fit.
-pub(crate) fn values(
-    alloc: Global,
-    places: &List<Place<Ratio>>,
-) -> Result<List<Ratio>, OutOfMemory>
+pub(crate) fn values(alloc: Global, places: &List<Place<Ratio>>) -> Result<List<Ratio>, OutOfMemory>
     ensures { IfOk result (λ values. values ≡ values_at places.now) }
 {
     let mut found = List::new(alloc);

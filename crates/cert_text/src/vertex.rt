@@ -115,11 +115,7 @@ fn basic_rows(alloc: Global, sides: &[Side]) -> Result<List<u32>, OutOfMemory>
 }
 
 /// The vertex with these sides, whose basis lists the rows that are basic.
-pub(crate) fn vertex(
-    alloc: Global,
-    sides: Sides,
-    coef: List<Ratio>,
-) -> Result<Vertex, OutOfMemory>
+pub(crate) fn vertex(alloc: Global, sides: Sides, coef: List<Ratio>) -> Result<Vertex, OutOfMemory>
     ensures { IfOk result (λ v. v ≡ record { basis = record { rows = basic_rows sides.0 }; sides = sides.0; coef = coef }) }
 {
     let rows = basic_rows(alloc, sides.0.as_slice())?;

@@ -1,4 +1,4 @@
-use Rattle.std.proofs.Common.{Err, Some, None, true, false, codes, sym, ap, ◌∙◌}
+use Rattle.std.proofs.Common.{Err, Some, true, false, codes, sym, ap, ◌∙◌}
 use Rattle.cert_text.specs.Reading.{fitting, further}
 use Rattle.cert_text.specs.Paths.{key_step}
 use Rattle.cert_text.proofs.OneByOne.{moved_as}

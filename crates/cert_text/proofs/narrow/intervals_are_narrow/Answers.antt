@@ -1,7 +1,6 @@
 use Rattle.std.proofs.Common.{◌≤◌, length, refl, arith}
 use Rattle.ratio.specs.Lowest.{IsLowest}
 use Rattle.cert_text.specs.Numbers.{intervals_are_narrow, IntervalHas, interval_is_narrow}
-use Rattle.cert_text.specs.Ratios.{is_narrow}
 use Rattle.cert_text.proofs.Walked.{walked_each, walked_more, walked_value}
 use Rattle.cert_text.proofs.narrow.intervals_are_narrow.Goals as goal
 
