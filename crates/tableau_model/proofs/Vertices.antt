@@ -11,7 +11,7 @@ use Rattle.rational_laws.specs.Selections.{is_among}
 use Rattle.loss_model.specs.declared.vertex.Side.{Side}
 use Rattle.loss_model.specs.declared.vertex.Side.TheVariants.{Basic}
 use Rattle.loss_model.specs.declared.vertex.Vertex.{Vertex}
-use Rattle.loss_model.proofs.Numbers.{same_numbers}
+use Rattle.loss_model.proofs.Alike.{same_numbers}
 use Rattle.loss_model.specs.Problem.{number_at, value_at}
 use Rattle.basis_model.specs.Perturbed.{side_of}
 use Rattle.basis_model.specs.Basis.{side_at}

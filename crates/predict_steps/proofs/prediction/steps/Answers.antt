@@ -2,7 +2,7 @@ use Rattle.std.proofs.Common.{◌≡◌, Some, slice_get, sym, ap, ◌∙◌}
 use Rattle.std.proofs.lemmas.Option.{slice_get-get_or}
 use Rattle.std.proofs.lemmas.Result.{err_from_is_err_and}
 use Rattle.rational_laws.specs.Fraction.{rational}
-use Rattle.loss_model.proofs.Widened.{one_more_alike}
+use Rattle.loss_model.proofs.Alike.{one_more_alike}
 use Rattle.predict_steps.specs.Predictions.{along, piece, prediction}
 use Rattle.predict_steps.proofs.prediction.steps.Goals as goal
 
