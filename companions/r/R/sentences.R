@@ -57,7 +57,7 @@ fault_sentences <- c(
     "certificate: CertTooLong" = "The certificate has more than 2^26 bytes, or more than 2^30 rows times segments. Certify a smaller range.",
     "certificate: NotJson" = "The input is no JSON. Hand in what certify has written, whole.",
     "certificate: Shape" = "The certificate has something else at this path than there should be. Hand in what certify has written, unchanged.",
-    "certificate: Version" = "The certificate has another version than 1 and 2. Take a program that knows this version.",
+    "certificate: Version" = "The certificate has another version than 1, 2 and 3. Take a program that knows this version.",
     "certificate: Number" = "The text at this path is no number, or one of more than 127 bits. Hand in what certify has written, or check it by quantreg-check.",
     "certificate: TooLarge" = "The certificate has more than 128 columns, 16,384 rows, 2^20 segments, 8,192 intervals, or 2^30 rows times segments. Check it by quantreg-check.",
     "check: Rejected" = "This condition of the certificate is false, so that nothing shows its fits to be optimal. Don't rely on them: see Certificates in the manual for the condition, and fit the table anew."
