@@ -44,7 +44,7 @@ module _ {F : Type 0} (value : F → Fraction) (range : ℕ) (v : RankProblem F)
   IsFirst all s = IsFirstStop value range v.problem.now v.limit all s.asked s.stop
 
   -- the stop of one of all that are asked, behind those that are right
-  first_by : (all earlier later : List (Asked F)) (asked : Asked F) (made : List (Interval F)) (s : IntervalStop F) → all ≡ earlier ++ asked ∷ later
+  first_by : (all earlier later : List (Asked F)) (asked : Asked F) (made : List Interval) (s : IntervalStop F) → all ≡ earlier ++ asked ∷ later
       → AreRightIntervals value v.problem.now v.limit earlier made → IsStopOf value range v asked s → IsFirst all s
   first_by all earlier later asked made s order right h =
       record {
@@ -57,30 +57,30 @@ module _ {F : Type 0} (value : F → Fraction) (range : ℕ) (v : RankProblem F)
       }
 
   -- what is made is right, and is what it is for
-  all_right : (all : List (Asked F)) (made : List (Interval F)) → AllZip (IsMade value v) all made → AreRightIntervals value v.problem.now v.limit all made
+  all_right : (all : List (Asked F)) (made : List Interval) → AllZip (IsMade value v) all made → AreRightIntervals value v.problem.now v.limit all made
   all_right [] [] h = tt
   all_right [] (r ∷ made) h = absurd h
   all_right (a ∷ all) [] h = absurd h
   all_right (a ∷ all) (r ∷ made) h = (h.0.right, all_right all made h.1)
 
-  all_for : (all : List (Asked F)) (made : List (Interval F)) → AllZip (IsMade value v) all made → All (IsFor v.purpose) made
+  all_for : (all : List (Asked F)) (made : List Interval) → AllZip (IsMade value v) all made → All (IsFor v.purpose) made
   all_for all [] h = All-nil (IsFor v.purpose)
   all_for [] (r ∷ made) h = absurd h
   all_for (a ∷ all) (r ∷ made) h = All-cons (IsFor v.purpose) r made h.0.purpose (all_for all made h.1)
 
   module _ (taus : List F) (starts : List (StartedAt F)) (same : AllZip (IsStartedAt value v) taus starts) where
     -- an interval stops
-    pub interval_first : (made : List (Interval F)) (s : IntervalStop F) → AreAnswered (IsIntervalAnswer value range v) (asked_of (taus_of starts)) made (Some s) → IsFirst (asked_of taus) s
+    pub interval_first : (made : List Interval) (s : IntervalStop F) → AreAnswered (IsIntervalAnswer value range v) (asked_of (taus_of starts)) made (Some s) → IsFirst (asked_of taus) s
     interval_first made s h =
         first_by (asked_of taus) h.earlier h.later h.here made s (ap asked_of (sym (same_taus taus starts same)) ∙ h.order) (all_right h.earlier made h.answered) h.stopped
 
     -- nothing stops
-    pub none_stops : (made : List (Interval F)) → AreAnswered (IsIntervalAnswer value range v) (asked_of (taus_of starts)) made None → AreRightIntervals value v.problem.now v.limit (asked_of taus) made
+    pub none_stops : (made : List Interval) → AreAnswered (IsIntervalAnswer value range v) (asked_of (taus_of starts)) made None → AreRightIntervals value v.problem.now v.limit (asked_of taus) made
     none_stops made h =
         subst (λ l. AreRightIntervals value v.problem.now v.limit (asked_of l) made) (same_taus taus starts same) (all_right (asked_of (taus_of starts)) made h)
 
     -- and what is made is what it is for
-    pub all_made : (made : List (Interval F)) → AreAnswered (IsIntervalAnswer value range v) (asked_of (taus_of starts)) made None → All (IsFor v.purpose) made
+    pub all_made : (made : List Interval) → AreAnswered (IsIntervalAnswer value range v) (asked_of (taus_of starts)) made None → All (IsFor v.purpose) made
     all_made made h = all_for (asked_of (taus_of starts)) made h
 
 -- the first of all stops

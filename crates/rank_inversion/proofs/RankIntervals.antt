@@ -36,6 +36,6 @@ module _ {F : Type 0} (value : F → Fraction) (p : Problem F) where
       (le_from_not (rational (value tau)) (whole (pos 1)) inner.1) rankable.data_rows
 
 -- an interval that lists its factors is what it is for
-pub listed_for : {F : Type 0} (purpose : Purpose) (r : Interval F) → HasFactors r → IsFor purpose r
+pub listed_for : (purpose : Purpose) (r : Interval) → HasFactors r → IsFor purpose r
 listed_for Report r h = tt
 listed_for Certificate r h = h

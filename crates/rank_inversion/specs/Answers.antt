@@ -32,11 +32,11 @@ module _ {F : Type 0} (value : F → Fraction) where
     pub cause : IsIntervalStop value range v.problem.now asked.column (rational (value asked.tau)) (rational (value asked.crit)) v.limit s.stop
 
   -- the interval is the one that is asked for, and is what it is for
-  pub record IsMade (v : RankProblem F) (asked : Asked F) (interval : Interval F) : Type 0 where
+  pub record IsMade (v : RankProblem F) (asked : Asked F) (interval : Interval) : Type 0 where
     pub right : IsRightInterval value v.problem.now v.limit asked interval
     pub purpose : IsFor v.purpose interval
 
   -- it is such an interval, or its stop
-  abbrev pub IsIntervalAnswer : ℕ → RankProblem F → Asked F → Result (Interval F) (IntervalStop F) → Type 0
+  abbrev pub IsIntervalAnswer : ℕ → RankProblem F → Asked F → Result Interval (IntervalStop F) → Type 0
   IsIntervalAnswer range v asked (Ok interval) = IsMade v asked interval
   IsIntervalAnswer range v asked (Err s) = IsStopOf range v asked s

@@ -27,7 +27,7 @@ pub enum Purpose {
 
 impl Purpose {
     /// Whether an interval has what it is for.
-    fn is_met<F: Exact>(&self, interval: &Interval<F>) -> bool
+    fn is_met(&self, interval: &Interval) -> bool
         ensures { result ≡ true → IsFor self.now interval.now }
     {
         match self {
@@ -137,8 +137,8 @@ impl<'a, F: Exact> RankProblem<'a, F> {
         &self,
         alloc: Global,
         asked: Asked<F>,
-        found: Interval<F>,
-    ) -> Result<Interval<F>, Stop<F>>
+        found: Interval,
+    ) -> Result<Interval, Stop<F>>
         requires askable { IsAskable F.value self.now.problem.now asked }
         requires right { IsRightInterval F.value self.now.problem.now self.now.limit asked found }
         ensures right { IfOk result (IsRightInterval F.value self.now.problem.now self.now.limit asked) }
@@ -161,7 +161,7 @@ impl<'a, F: Exact> RankProblem<'a, F> {
         alloc: Global,
         started: &Option<Started<'a, F>>,
         asked: Asked<F>,
-    ) -> Result<Interval<F>, IntervalStop<F>>
+    ) -> Result<Interval, IntervalStop<F>>
         requires { IsWalkable F.value self.now asked started.now }
         ensures { IsIntervalAnswer F.value F.range self.now asked result }
     {

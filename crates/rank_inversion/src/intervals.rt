@@ -151,7 +151,7 @@ impl<'a> RankProblem<'a, Frac128> {
         alloc: Global,
         starts: &[StartedAt<'a, Frac128>],
         gate: &G,
-    ) -> Result<UntilStop<Interval<Frac128>, IntervalStop<Frac128>>, OutOfMemory>
+    ) -> Result<UntilStop<Interval, IntervalStop<Frac128>>, OutOfMemory>
         requires ready { IsRankProblem value self.now }
         requires starts { All (IsStart value self.now) starts.now }
         ensures { IfOk result (λ until. AreAnswered (IsIntervalAnswer value range self.now) (asked_over self.now.crit self.now.problem.now.columns (map (λ at. at.tau) starts.now)) until.done.items until.stop) }
@@ -168,7 +168,7 @@ impl<'a> RankProblem<'a, Frac128> {
         alloc: Global,
         taus: &[Frac128],
         gate: &G,
-    ) -> Result<List<Interval<Frac128>>, IntervalStop<Frac128>>
+    ) -> Result<List<Interval>, IntervalStop<Frac128>>
         requires ready { IsRankProblem value self.now }
         requires taus { All (λ tau. IsInner (rational (value tau))) taus.now }
         requires some { 0 < length taus.now }
@@ -202,7 +202,7 @@ pub fn all_intervals<R: Threads + Sync, G: Gate>(
     problem: &Problem<Frac128>,
     asks: &RankAsks<Frac128>,
     gate: &G,
-) -> Result<List<Interval<Frac128>>, IntervalStop<Frac128>>
+) -> Result<List<Interval>, IntervalStop<Frac128>>
     requires rankable { IsRankable value problem.now asks.now.crit }
     requires taus { All (λ tau. IsInner (rational (value tau))) asks.now.taus.now }
     ensures right { IfOk result (AreRightIntervals value problem.now asks.now.limit (asked_over asks.now.crit problem.now.columns asks.now.taus.now)) }
