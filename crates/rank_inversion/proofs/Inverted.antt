@@ -148,9 +148,9 @@ module _ {F : Type 0} (value : F → Fraction) (v : Inversion F) (ready : IsRead
     same_bound = tested.bound
 
     pub joined_is : IsRankInterval value p j v.asked.tau v.asked.crit v.limit
-        (joined value v.solved.now.trail v.asked (Some factors) up down)
+        (joined value v.solved.now.trail v.asked factors up down)
     joined_is =
-        interval_is value p v.asked ready.askable v.solved.now.trail solved (Some factors) (number_at factors) up down ready.solution.lawful optimal tested.projection tested.positive refl tested.size
+        interval_is value p v.asked ready.askable v.solved.now.trail solved factors up down ready.solution.lawful optimal tested.projection tested.positive tested.size
         (subst (λ b. AreWalkingSteps (when_on rise) (walk rise q tau j) (is_within b) (whole (pos 0)) solved up.steps) same_bound h.ended.walked)
         (subst (λ b. AreWalkingSteps (when_on fall) (walk fall q tau j) (is_within b) (whole (pos 0)) solved down.steps) same_bound k.ended.walked)
         (subst (λ b. IsWalked value p rise j tau b solved up.steps up.end) same_bound h.ended.ended)

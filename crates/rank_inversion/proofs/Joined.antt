@@ -67,23 +67,22 @@ module _ {F : Type 0} (value : F → Fraction) (p : Problem F) (asked : Asked F)
   pub walked_is_risen : (bound : ℚ) (up down : List Exchange) (high : End) → IsWalked value p rise j tau bound solved up high → HasRisen q tau j bound (with_walks solve up down) solved
   walked_is_risen bound up down high h = walk_is_ended value p j tau bound askable.column rise solved up high h
 
-  module _ (listed : Option (List Fraction)) (c : ℕ → ℚ) (up down : Arrival) where
+  module _ (factors : List Fraction) (up down : Arrival) where
     abbrev made : Interval
-    made = joined value solve asked listed up down
+    made = joined value solve asked factors up down
 
     abbrev bound : ℚ
-    bound = bound_by value p made c
+    bound = bound_by value p made (number_at factors)
 
     module _ (lawful : IsSolvingTrail q tau solve solved) (optimal : IsOptimalBasis q tau solved)
-        (projection : IsProjection q j c) (positive : whole (pos 0) <ℚ squared_length q j c)
-        (same : IfSome listed (λ list. number_at list ≡ c)) (size : IfSome listed (λ list. length list ≡ p.columns))
+        (projection : IsProjection q j (number_at factors)) (positive : whole (pos 0) <ℚ squared_length q j (number_at factors)) (size : length factors ≡ p.columns)
         (rose : AreSteps rise bound up.steps) (fell : AreSteps fall bound down.steps)
         (high_end : IsWalked value p rise j tau bound solved up.steps up.end) (low_end : IsWalked value p fall j tau bound solved down.steps down.end) where
       of : IsIntervalOf value p made
       of =
           record {
-            factors = c;
-            listed = same;
+            factors = number_at factors;
+            listed = refl;
             right = record {
               solved = solved;
               projection = projection;
@@ -112,6 +111,7 @@ module _ {F : Type 0} (value : F → Fraction) (p : Problem F) (asked : Asked F)
             crit = refl;
             lawful = of;
             conditions = passes value p made askable.data_rows askable.tau_above askable.tau_below is_asked of positive;
+            listed = refl;
             size = size;
             short = short;
           }

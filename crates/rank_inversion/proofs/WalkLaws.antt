@@ -1,6 +1,7 @@
 -- How a walk begins, goes on, ends and halts.
 use Rattle.std.specs.Prelude.{◌≡◌, ◌<◌, ◌≤◌, ◌++◌, ◌∷◌, [], ℕ, List, length, slice_index, slice_set, pos}
 use Rattle.std.proofs.Common.{refl, sym, ap, subst, ◌∙◌}
+use Rattle.rank_tableau.specs.Walks.{exchange_of}
 use Rattle.rank_tableau.proofs.Along.{nothing_at, when_is}
 use Rattle.rational_laws.specs.Fraction.{Fraction, rational}
 use Rattle.rational_laws.specs.Rational.{ℚ, whole}
@@ -34,7 +35,7 @@ use Rattle.rank_steps.specs.Ways.{way_of}
 use Rattle.rank_inversion.specs.Courses.{tau_of, bound_of, parameter_at, family_of}
 use Rattle.rank_inversion.specs.Looks.{IsStepAt, IsEndOf, IsSpillAt}
 use Rattle.rank_inversion.specs.Stops.{IsRankSpill}
-use Rattle.rank_inversion.specs.Walks.{exchange_of, IsHaltOf, IsBegun, IsAdvanced, IsAlong, IsEnded, IsAtLimit, IsSpilled, IsHalted}
+use Rattle.rank_inversion.specs.Walks.{IsHaltOf, IsBegun, IsAdvanced, IsAlong, IsEnded, IsAtLimit, IsSpilled, IsHalted}
 
 module _ {F : Type 0} (value : F → Fraction) (c : Course F) where
   pub along_begins : (w : Walk F) → IsBegun value c w → IsAlong value w.tableau.problem c w.tableau.rows w

@@ -40,8 +40,8 @@ module _ {F : Type 0} (value : F → Fraction) (s : Started F) (asked : Asked F)
     whole_interval askable w sides =
         let made : length s.reached.trail.steps ≤ limit = h.reached.short in
         let few : length w.rise.steps + length w.fall.steps ≤ limit - length s.reached.trail.steps = sides.short in
-        interval_is value p asked askable s.reached.trail s.reached.tableau.rows w.factors sides.factors w.rise w.fall h.reached.lawful optimal sides.projection sides.positive
-        sides.listed sides.size sides.rise.walked sides.fall.walked sides.rise.ended sides.fall.ended limit (omega (arith, made, few))
+        interval_is value p asked askable s.reached.trail s.reached.tableau.rows w.factors w.rise w.fall h.reached.lawful optimal sides.projection sides.positive sides.size
+        sides.rise.walked sides.fall.walked sides.rise.ended sides.fall.ended limit (omega (arith, made, few))
 
 -- what was begun for a problem is of that problem
 module _ {F : Type 0} (value : F → Fraction) (p : Problem F) (s : Started F) (asked : Asked F) (limit : ℕ) (h : IsStarted value p (rational (value asked.tau)) limit s) where

@@ -1,17 +1,15 @@
 -- Stated. The rank intervals that are asked for, and the first of them that stops. A type F of fractions is seen by a
 -- function into pairs.
-use Rattle.std.specs.Prelude.{◌≡◌, ℕ, List, ◌∷◌, ◌++◌, map, ⊤, Result, Ok, Err}
+use Rattle.std.specs.Prelude.{◌≡◌, ℕ, List, ◌∷◌, ◌++◌, map, Result, Ok, Err}
 use Rattle.std.specs.List.{AllZip, flat_map, range_with_len}
 use Rattle.rational_laws.specs.Fraction.{Fraction, rational}
 use Rattle.loss_model.specs.declared.interval.Interval.{Interval}
 use Rattle.loss_model.specs.declared.problem.Problem.{Problem}
 use Rattle.loss_model.specs.declared.stop.Stop.{Stop}
 use Rattle.br_pivot.specs.Solves.{IsLimitAnswer}
-use Rattle.rank_inversion.specs.Intervals.{IsExactInterval, HasFactors, IsRankInterval}
+use Rattle.rank_inversion.specs.Intervals.{IsExactInterval, IsRankInterval}
 use Rattle.rank_inversion.specs.Stops.{IsIntervalStop, IsLimited}
 use Rattle.rank_inversion.specs.declared.column_test.Asked.{Asked}
-use Rattle.rank_inversion.specs.declared.asks.Purpose.{Purpose}
-use Rattle.rank_inversion.specs.declared.asks.Purpose.TheVariants.{Report, Certificate}
 
 -- ---- what is asked
 
@@ -24,11 +22,6 @@ abbrev pub asked_over : {F : Type 0} → F → ℕ → List F → List (Asked F)
 asked_over crit n taus = flat_map (asked_at crit n) taus
 
 -- ---- what is answered
-
--- an interval for a certificate lists the factors of its projection
-abbrev pub IsFor : Purpose → Interval → Type 0
-IsFor Report r = ⊤
-IsFor Certificate r = HasFactors r
 
 module _ {F : Type 0} (value : F → Fraction) where
   -- the interval is the one that is asked: exactly the values between its ends hold, its trail is lawful, and is

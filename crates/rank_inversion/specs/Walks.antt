@@ -21,16 +21,13 @@ use Rattle.rank_walk_model.specs.RankWalks.{tested}
 use Rattle.rank_inversion.specs.declared.course.Course.{Course}
 use Rattle.rank_inversion.specs.declared.walking.Walk.{Walk}
 use Rattle.rank_tableau.specs.declared.walking.Arrival.{Arrival}
+use Rattle.rank_tableau.specs.Walks.{exchange_of}
 use Rattle.rank_inversion.specs.declared.walking.WalkHalt.{WalkHalt}
 use Rattle.rank_inversion.specs.declared.walking.WalkHalt.TheVariants.{OutOfMemory, PivotLimit, Overflow}
 use Rattle.rank_steps.specs.Ways.{way_of}
 use Rattle.rank_inversion.specs.Courses.{tau_of, bound_of, parameter_at}
 use Rattle.rank_inversion.specs.Looks.{IsStepAt, IsEndOf, IsSpillAt}
 use Rattle.rank_inversion.specs.Stops.{IsRankSpillAfter}
-
--- a step as the trail has it
-abbrev pub exchange_of : {F : Type 0} → (F → Fraction) → WalkingStep F → Exchange
-exchange_of value x = record { theta = value x.theta; position = x.position; row = x.row }
 
 -- the halt that a refusal makes of the steps
 abbrev pub IsHaltOf : {F : Type 0} → Short F → List Exchange → WalkHalt F → Type 0

@@ -9,9 +9,7 @@ ghost use Rattle.rank_inversion.specs.Tests.{IsTested};
 use crate::gram::GramInverse;
 use crate::projection::project;
 use frac_core::{Exact, List, OutOfMemory};
-use loss_model::{
-    Problem, Quantity, Short, Site, Spill, Stop, Trail, minus_at, times_at, widened,
-};
+use loss_model::{Problem, Quantity, Short, Site, Spill, Stop, Trail, minus_at, times_at, widened};
 use ratio::Ratio;
 use std::alloc::Global;
 

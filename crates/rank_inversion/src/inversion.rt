@@ -9,7 +9,7 @@ ghost use Rattle.loss_model.specs.declared.stop.Stop.TheVariants.{PivotLimit, Ov
 ghost use Rattle.fraction_tableau.specs.Kept.{IsKept};
 ghost use Rattle.br_pivot.specs.Solutions.{IsSolution};
 ghost use Rattle.rank_inversion.specs.AllIntervals.{IsAnswer};
-ghost use Rattle.rank_inversion.specs.Intervals.{HasFactors, IsRankInterval};
+ghost use Rattle.rank_inversion.specs.Intervals.{IsRankInterval};
 ghost use Rattle.rank_inversion.specs.Stops.{IsWalkStop};
 ghost use Rattle.rank_inversion.specs.Tests.{IsTested};
 ghost use Rattle.rank_inversion.specs.Walks.{IsEnded, IsHalted};
@@ -176,16 +176,8 @@ impl<'a, F: Exact> Inversion<'a, F> {
         requires risen { IsRisen F.value self.now rise }
         requires fallen { IsFallen F.value self.now rise.steps fall }
         ensures interval { IfOk result (IsRankInterval F.value self.now.problem.now self.now.asked.column self.now.asked.tau self.now.asked.crit self.now.limit) }
-        ensures listed { IfOk result HasFactors }
     {
-        let interval = joined(
-            alloc,
-            &self.solved.trail,
-            self.asked,
-            Some(factors),
-            rise,
-            fall,
-        )?;
+        let interval = joined(alloc, &self.solved.trail, self.asked, factors, rise, fall)?;
         Ok(interval)
     }
 
@@ -194,7 +186,6 @@ impl<'a, F: Exact> Inversion<'a, F> {
         requires ready { IsReady F.value self.now }
         requires tested { IsTested F.value self.now.problem.now self.now.asked (record { asked = self.now.asked; factors = factors; bound = self.now.bound }) }
         ensures interval { IfOk result (IsRankInterval F.value self.now.problem.now self.now.asked.column self.now.asked.tau self.now.asked.crit self.now.limit) }
-        ensures listed { IfOk result HasFactors }
         ensures stopped { IfErr result (IsStopHere F.value F.range self.now) }
     {
         let left = self.limit - self.solved.trail.steps.as_slice().len() as u32;
@@ -231,7 +222,6 @@ pub fn interval_from<F: Exact>(
     requires short { length solved.now.trail.steps ≤ limit }
     requires tested { IsTested F.value problem.now test.asked test }
     ensures interval { IfOk result (IsRankInterval F.value problem.now test.asked.column test.asked.tau test.asked.crit limit) }
-    ensures listed { IfOk result HasFactors }
     ensures stopped { IfErr result (IsWalkStop F.value F.range problem.now test.asked.column (rational (F.value test.asked.tau)) (rational (F.value test.asked.crit)) limit) }
 {
     let inversion = Inversion {
@@ -255,8 +245,7 @@ fn by_parts<F: Exact>(
     limit: u32,
 ) -> Result<Interval, Stop<F>>
     requires asked { IsAskable F.value problem.now asked }
-    ensures answer { IsAnswer F.value F.range problem.now limit asked result }
-    ensures listed { IfOk result HasFactors }
+    ensures { IsAnswer F.value F.range problem.now limit asked result }
 {
     let gram = match gram_inverse(alloc, problem) {
         Ok(gram) => gram,
@@ -290,7 +279,7 @@ fn by_parts<F: Exact>(
 }
 
 /// The rank interval of a column by its parts alone, whose walks go in fractions: what `interval` comes to where whole
-/// numbers don't suffice. It lists the factors of its projection, so it stops where one of them has no number.
+/// numbers don't suffice.
 pub fn interval_by_parts<F: Exact>(
     alloc: Global,
     problem: &Problem<F>,
@@ -303,13 +292,9 @@ pub fn interval_by_parts<F: Exact>(
     requires tau_below { rational (F.value asked.tau) <ℚ whole (pos 1) }
     requires crit { whole (pos 0) ≤ℚ rational (F.value asked.crit) }
     requires data { (i : ℕ) → i < length problem.now.rows → IsDataRow (sample F.value problem.now) i }
-    ensures answer { IsAnswer F.value F.range problem.now limit asked result }
-    ensures listed { IfOk result HasFactors }
+    ensures { IsAnswer F.value F.range problem.now limit asked result }
 {
-    match by_parts(alloc, problem, asked, limit) {
-        Ok(interval) => Ok(interval),
-        Err(stop) => Err(stop),
-    }
+    by_parts(alloc, problem, asked, limit)
 }
 
 /// The interval in whole numbers, or else by its parts.

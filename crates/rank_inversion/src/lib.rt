@@ -9,7 +9,7 @@
 //!
 //! `all_intervals` gives the rank intervals of a problem by jobs at once: a right interval for each that is asked, quantile by
 //! quantile as given, and column by column within, or the first that stops, in the order in which they are asked and not in that in
-//! which the jobs end; for a certificate each lists the factors of its projection. The problem is made whole once. Then the solves in
+//! which the jobs end. The problem is made whole once. Then the solves in
 //! whole numbers are jobs, one for each quantile, and then the walks, one for each quantile and column, from the solve at the
 //! quantile.
 //!
@@ -48,7 +48,7 @@ mod until;
 mod walking;
 mod wholes;
 
-pub use asks::{IntervalStop, Purpose, RankAsks};
+pub use asks::{IntervalStop, RankAsks};
 pub use br_pivot::{Solved, solve_at};
 pub use column_test::{Asked, RankTest, rank_test};
 pub use gram::{GramInverse, gram_inverse};

@@ -83,7 +83,7 @@ pub(crate) fn with_walks(
 }
 
 /// What is asked, and the trail of the solve.
-fn head<F: Exact>(alloc: Global, solve: &Trail, asked: Asked<F>) -> Result<Head, OutOfMemory>
+fn head_of<F: Exact>(alloc: Global, solve: &Trail, asked: Asked<F>) -> Result<Head, OutOfMemory>
     ensures tau { IfOk result (λ h. h.tau ≡ F.value asked.tau) }
     ensures crit { IfOk result (λ h. h.crit ≡ F.value asked.crit) }
     ensures start { IfOk result (λ h. h.trail.start ≡ solve.now.start) }
@@ -95,18 +95,18 @@ fn head<F: Exact>(alloc: Global, solve: &Trail, asked: Asked<F>) -> Result<Head,
     Ok(Head { tau, crit, trail })
 }
 
-/// The interval of both walks, by the factors that it lists.
+/// The interval of both walks, which lists the factors of its projection.
 pub(crate) fn joined<F: Exact>(
     alloc: Global,
     solve: &Trail,
     asked: Asked<F>,
-    factors: Option<List<Ratio>>,
+    factors: List<Ratio>,
     rise: Arrival,
     fall: Arrival,
 ) -> Result<Interval, OutOfMemory>
     ensures { IfOk result (λ r. r ≡ joined F.value solve.now asked factors rise fall) }
 {
-    let Head { tau, crit, trail } = match head(alloc, solve, asked) {
+    let Head { tau, crit, trail } = match head_of(alloc, solve, asked) {
         Ok(head) => head,
         Err(_) => {
             drop(factors);
@@ -121,7 +121,7 @@ pub(crate) fn joined<F: Exact>(
         crit,
         low: fall.end,
         high: rise.end,
-        projection: factors,
+        projection: Some(factors),
         trail: Trail {
             start: trail.start,
             steps: trail.steps,

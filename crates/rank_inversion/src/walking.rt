@@ -4,9 +4,10 @@ ghost use Rattle.loss_model.specs.Problem.{sample};
 ghost use Rattle.basis_inverse.specs.Square.{inverse_entry};
 ghost use Rattle.pivot_model.specs.Duals.{HasCosts};
 ghost use Rattle.walk_model.specs.Families.{IsOptimalIn};
+ghost use Rattle.rank_tableau.specs.Walks.{exchange_of};
 ghost use Rattle.rank_inversion.specs.Courses.{tau_of, parameter_at, family_of};
 ghost use Rattle.rank_inversion.specs.Looks.{IsStepAt};
-ghost use Rattle.rank_inversion.specs.Walks.{exchange_of, IsBegun, IsAdvanced, IsAdvancedOrEnded, IsKeptShort, IsEnded, IsHalted, IsHaltOf};
+ghost use Rattle.rank_inversion.specs.Walks.{IsBegun, IsAdvanced, IsAdvancedOrEnded, IsKeptShort, IsEnded, IsHalted, IsHaltOf};
 
 use crate::course::Course;
 use crate::look::look;
