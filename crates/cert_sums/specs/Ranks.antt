@@ -3,21 +3,20 @@ use Rattle.std.specs.Prelude.{◌≡◌, ℕ, ℤ, ◌<◌, ◌*ℤ◌, List, sl
 use Rattle.std.specs.Option.{option_map_or}
 use Rattle.rational_laws.specs.Fraction.{Fraction, rational}
 use Rattle.rational_laws.specs.Order.{cmp_ℚ}
-use Rattle.rational_laws.specs.Rational.{ℚ, ◌+ℚ◌, ◌*ℚ◌, neg_ℚ, whole, ◌≤ℚ◌}
+use Rattle.rational_laws.specs.Rational.{ℚ, ◌*ℚ◌, whole, ◌≤ℚ◌}
 use Rattle.frac_core.specs.declared.frac128.Frac128.{Frac128}
 use Rattle.frac_core.specs.Values.{value as value128}
 use Rattle.loss_model.specs.declared.interval.IntervalProof.{IntervalProof}
-use Rattle.loss_model.specs.declared.problem.Row.{Row}
 use Rattle.loss_model.specs.declared.vertex.Side.{Side}
-use Rattle.loss_model.specs.declared.vertex.Side.TheVariants.{Basic}
 use Rattle.loss_model.specs.declared.vertex.Vertex.{Vertex}
 use Rattle.loss_model.specs.Problem.{number_at}
-use Rattle.loss_model.specs.Sample.{Sample, up_cost, down_cost}
+use Rattle.loss_model.specs.Sample.{Sample}
 use Rattle.loss_model.specs.Strict.{◌<ℚ◌}
 use Rattle.rank_model.specs.Restricted.{column_sum, IsProjection, squared_length, rank_bound}
 use Rattle.wide_int.specs.Numbers.{total}
 use Rattle.cert_sums.specs.Duals.{side_in, dual_of}
 use Rattle.cert_sums.specs.Sums.{IsBalancedBut}
+use Rattle.cert_sums.specs.Within.{IsWithinCosts}
 use Rattle.cert_sums.specs.declared.ranks.Standing.{Standing}
 use Rattle.cert_sums.specs.declared.table.WholeRow.{WholeRow}
 
@@ -28,16 +27,6 @@ left_at rows numbers i = option_map_or (λ w. whole ((total w.cells numbers *ℤ
 -- a number is above 0
 abbrev pub IsPositive : ℚ → Type 0
 IsPositive x = whole (pos 0) <ℚ x
-
--- a value is within the costs of a row
-pub record IsBetween (r : Row Frac128) (theta e : ℚ) : Type 0 where
-  pub upper : e ≤ℚ (rational (value128 r.up0) +ℚ (rational (value128 r.up1) *ℚ theta))
-  pub lower : neg_ℚ (rational (value128 r.down0) +ℚ (rational (value128 r.down1) *ℚ theta)) ≤ℚ e
-
--- a value of row i is within its costs, where the row is a basic one
-pub record IsWithinCosts (p : Sample) (theta : ℚ) (side : Side) (e : ℚ) (i : ℕ) : Type 0 where
-  pub upper : side ≡ Basic → e ≤ℚ up_cost p theta i
-  pub lower : side ≡ Basic → neg_ℚ (down_cost p theta i) ≤ℚ e
 
 -- the values of basic rows are within their costs, and those of all rows orthogonal to each column but j
 pub record IsHeldWithout (p : Sample) (j : ℕ) (theta : ℚ) (side : ℕ → Side) (e : ℕ → ℚ) : Type 0 where

@@ -9,9 +9,10 @@ ghost use Rattle.loss_model.specs.Vertex.{basic_value};
 ghost use Rattle.cert_sums.specs.Tables.{IsSmallRow, IsTable};
 ghost use Rattle.cert_sums.specs.Duals.{at_line, side_in, dual_of, IsRowDual, IsDuals};
 
-use crate::scale::{answer_scaled, common_scale, narrow, product, scaled};
+use crate::reach::reach_of;
+use crate::scale::product;
 use crate::table::{Line, Table, WholeRow};
-use crate::vertices::{basic_number, side};
+use crate::vertices::{basic_scaled, side};
 use frac_core::{Frac128, List};
 use loss_model::{Problem, Side, Vertex};
 use ratio::Ratio;
@@ -50,9 +51,9 @@ pub(crate) fn has_reach(limit: u64, scale: u128, at: i128) -> bool
     }
 }
 
-// What a line comes to there, times the scale.
+/// What a line comes to there, times the scale.
 #[inline]
-fn line_at(line: Line, scale: u128, at: i128) -> i128
+pub(crate) fn line_at(line: Line, scale: u128, at: i128) -> i128
     requires scale { scale < 2 ^ 127 }
     requires room { unsigned_abs line.start * scale + unsigned_abs line.slope * unsigned_abs at < 2 ^ 127 }
     ensures { result ≡ at_line line scale at }
@@ -60,11 +61,11 @@ fn line_at(line: Line, scale: u128, at: i128) -> i128
     grown(grown(0, line.start, scale as i128), line.slope, at)
 }
 
-/// A fraction times both scales.
-pub(crate) fn basic_dual(v: Frac128, scale: u128, cost_scale: u128) -> Option<i128>
-    ensures { IfSome result (λ e. whole e ≡ (whole (pos scale) *ℚ whole (pos cost_scale)) *ℚ rational (value128 v)) }
+/// The dual value of a basic row, times both scales.
+pub(crate) fn basic_dual(end: End<'_>, row: usize, scale: u128, cost_scale: u128) -> Option<i128>
+    ensures { IfSome result (λ e. whole e ≡ (whole (pos scale) *ℚ whole (pos cost_scale)) *ℚ basic_value end.entry.vertex.now end.entry.basic.now row) }
 {
-    let number = scaled(v, scale)?;
+    let number = basic_scaled(end.vertex, end.basic, row, scale)?;
     let made = product(number, cost_scale)?;
     Some(made)
 }
@@ -87,10 +88,7 @@ pub(crate) fn row_dual(
     match side(end.vertex, i) {
         Side::Up => Some(line_at(row.up, scale, at)),
         Side::Down => Some(line_at(row.low, scale, at)),
-        Side::Basic => {
-            let value = basic_number(end.vertex, end.basic, i)?;
-            basic_dual(value, scale, table.cost_scale)
-        }
+        Side::Basic => basic_dual(end, i, scale, table.cost_scale),
     }
 }
 
@@ -104,19 +102,17 @@ pub(crate) fn duals_of(
     requires { IsTable problem.now table.now }
     ensures { IfSome result (IsDuals problem.now table.now (dual_of (sample value128 problem.now) (rational end.entry.theta.now) end.entry.vertex.now end.entry.basic.now)) }
 {
-    let theta = narrow(end.theta)?;
-    let scale = common_scale(theta, end.basic.as_slice())?;
-    let at = answer_scaled(end.theta, scale)?;
-    if !has_reach(table.cost_limit, scale, at) {
-        return None;
-    }
+    let reach = reach_of(table, end)?;
     let rows = table.rows.as_slice();
     let mut values = List::new(alloc);
     for i in 0..rows.len() {
-        let value = row_dual(table, &rows[i], i, end, scale, at)?;
+        let value = row_dual(table, &rows[i], i, end, reach.scale, reach.at)?;
         if values.push(value).is_err() {
             return None;
         }
     }
-    Some(Duals { scale, values })
+    Some(Duals {
+        scale: reach.scale,
+        values,
+    })
 }

@@ -35,6 +35,7 @@ mod slopes;
 mod table;
 mod totals;
 mod vertices;
+mod within;
 
 pub use ends::{WholeProblem, duals_balance, duals_meet, losses_hold};
 pub use projection::projects;
@@ -42,3 +43,4 @@ pub use ranks::{beyond_bound, lies_inside};
 pub use run::run_holds;
 pub use table::{Line, Table, WholeRow, whole_table};
 pub use vertices::{basis_place, side};
+pub use within::{bounds_hold, costs_stand};

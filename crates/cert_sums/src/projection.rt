@@ -115,7 +115,7 @@ fn left_of(
     if column >= factors.len() {
         return None;
     }
-    let scale = common_scale(Frac128::one(), factors)?;
+    let scale = common_scale(1, factors)?;
     let numbers = left_factors(alloc, factors, column, scale)?;
     if !has_room(numbers.as_slice(), table.limit) {
         return None;

@@ -4,7 +4,7 @@ ghost use Rattle.rational_laws.specs.Fraction.{rational};
 ghost use Rattle.cert_sums.specs.Slopes.{IsReach};
 
 use crate::duals::{End, has_reach};
-use crate::scale::{answer_scaled, common_scale, narrow};
+use crate::scale::{answer_scaled, common_scale};
 use crate::table::Table;
 
 /// A common denominator of a quantile and of the basic dual values there, and the quantile times that.
@@ -18,8 +18,7 @@ pub(crate) struct Reach {
 pub(crate) fn reach_of(table: &Table, end: End<'_>) -> Option<Reach>
     ensures { IfSome result (IsReach table.now.cost_limit (rational end.entry.theta.now)) }
 {
-    let theta = narrow(end.theta)?;
-    let scale = common_scale(theta, end.basic.as_slice())?;
+    let scale = common_scale(end.theta.denominator().narrow()?, end.basic.as_slice())?;
     let at = answer_scaled(end.theta, scale)?;
     if !has_reach(table.cost_limit, scale, at) {
         return None;

@@ -12,10 +12,10 @@ ghost use Rattle.cert_sums.specs.Duals.{side_in};
 ghost use Rattle.cert_sums.specs.Residuals.{IsWholeOn, AreMultipliers, RowsFollow};
 
 use crate::products::{has_room, narrow_row_product, narrowed};
-use crate::scale::{common_scale, narrow, scaled};
+use crate::scale::{answer_scaled, common_scale};
 use crate::table::Table;
 use crate::vertices::side;
-use frac_core::{Exact, Frac128, List};
+use frac_core::{Frac128, List};
 use loss_model::{Problem, Side, Vertex};
 use ratio::Ratio;
 use std::alloc::Global;
@@ -37,8 +37,8 @@ fn numbers_of(alloc: Global, coef: &[Ratio], scale: u128) -> Option<List<i128>>
 {
     let mut made = List::new(alloc);
     for k in 0..coef.len() {
-        let coefficient = narrow(&coef[k])?;
-        let number = scaled(coefficient.neg(), scale)?;
+        let plain = answer_scaled(&coef[k], scale)?;
+        let number = plain.checked_neg()?;
         if made.push(number).is_err() {
             return None;
         }
@@ -58,7 +58,7 @@ fn numbers_of(alloc: Global, coef: &[Ratio], scale: u128) -> Option<List<i128>>
 fn multipliers_of(alloc: Global, coef: &[Ratio]) -> Option<Multipliers>
     ensures { IfSome result (AreMultipliers coef.now) }
 {
-    let scale = common_scale(Frac128::one(), coef)?;
+    let scale = common_scale(1, coef)?;
     let numbers = numbers_of(alloc, coef, scale)?;
     Some(Multipliers { scale, numbers })
 }

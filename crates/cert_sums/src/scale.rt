@@ -1,5 +1,5 @@
 //! Common denominators, and fractions times them.
-ghost use Rattle.std.specs.Prelude.{◌≡◌, ◌≤◌, ◌*ℤ◌, pos, IfSome, IsTrue};
+ghost use Rattle.std.specs.Prelude.{◌≡◌, ◌≤◌, ◌*◌, ◌*ℤ◌, pos, IfSome, IsTrue};
 ghost use Rattle.rational_laws.specs.Fraction.{rational};
 ghost use Rattle.rational_laws.specs.Rational.{◌*ℚ◌, whole};
 ghost use Rattle.frac_core.specs.Values.{value as value128};
@@ -27,14 +27,20 @@ pub(crate) fn narrow(v: &Ratio) -> Option<Frac128>
     Frac128::from_parts(num, den)
 }
 
-/// Whether a number of an answer is a fraction.
+/// Whether a number of an answer is a fraction, whose parts in lowest terms are the same.
 pub(crate) fn is_number(v: &Ratio, found: Frac128) -> bool
     ensures { IsTrue result → rational v.now ≡ rational (value128 found) }
 {
-    match narrow(v) {
-        Some(number) => number.compare(found).is_eq(),
-        None => false,
+    let Some(num) = signed(v.numerator()) else {
+        return false;
+    };
+    let Some(den) = v.denominator().narrow() else {
+        return false;
+    };
+    if num != found.numerator() {
+        return false;
     }
+    den == found.denominator().unsigned_abs()
 }
 
 /// Whether two numbers of answers are the same.
@@ -47,22 +53,20 @@ pub(crate) fn is_same(left: &Ratio, right: &Ratio) -> bool
     left.denominator().compare(right.denominator()).is_eq()
 }
 
-/// A multiple of a number and of the denominator of a fraction. Nothing is promised of it: who uses it divides and
-/// multiplies back.
-pub(crate) fn multiple(scale: u128, v: Frac128) -> Option<u128> {
-    let den = v.denominator().unsigned_abs();
+/// A multiple of two numbers. Nothing is promised of it: who uses it divides and multiplies back.
+pub(crate) fn multiple(scale: u128, den: u128) -> Option<u128> {
     if scale.checked_rem(den)? == 0 {
         return Some(scale);
     }
-    let reduced = Frac128::from_parts(i128::try_from(scale).ok()?, v.denominator())?;
+    let reduced = Frac128::from_parts(i128::try_from(scale).ok()?, i128::try_from(den).ok()?)?;
     reduced.numerator().unsigned_abs().checked_mul(den)
 }
 
-/// The same, of all fractions of a list.
+/// A multiple of a number and of the denominators of all fractions of a list.
 pub(crate) fn common_multiple(scale: u128, numbers: &[Frac128]) -> Option<u128> {
     let mut found = scale;
     for i in 0..numbers.len() {
-        found = multiple(found, numbers[i])?;
+        found = multiple(found, numbers[i].denominator().unsigned_abs())?;
     }
     Some(found)
 }
@@ -71,7 +75,7 @@ pub(crate) fn common_multiple(scale: u128, numbers: &[Frac128]) -> Option<u128> 
 fn answers_multiple(scale: u128, numbers: &[Ratio]) -> Option<u128> {
     let mut found = scale;
     for i in 0..numbers.len() {
-        found = multiple(found, narrow(&numbers[i])?)?;
+        found = multiple(found, numbers[i].denominator().narrow()?)?;
     }
     Some(found)
 }
@@ -86,16 +90,23 @@ pub(crate) fn product(n: i128, times: u128) -> Option<i128>
     }
 }
 
-/// A fraction times a number, where the denominator divides that.
-pub(crate) fn scaled(v: Frac128, scale: u128) -> Option<i128>
-    ensures { IfSome result (λ m. whole m ≡ whole (pos scale) *ℚ rational (value128 v)) }
+// How often a denominator goes into a scale, where it divides that.
+fn share_of(scale: u128, den: u128) -> Option<u128>
+    ensures { IfSome result (λ times. scale ≡ times * den) }
 {
-    let den = v.denominator().unsigned_abs();
     let times = scale.checked_div(den)?;
     let back = times.checked_mul(den)?;
     if back != scale {
         return None;
     }
+    Some(times)
+}
+
+/// A fraction times a number, where the denominator divides that.
+pub(crate) fn scaled(v: Frac128, scale: u128) -> Option<i128>
+    ensures { IfSome result (λ m. whole m ≡ whole (pos scale) *ℚ rational (value128 v)) }
+{
+    let times = share_of(scale, v.denominator().unsigned_abs())?;
     let made = product(v.numerator(), times)?;
     Some(made)
 }
@@ -104,15 +115,18 @@ pub(crate) fn scaled(v: Frac128, scale: u128) -> Option<i128>
 pub(crate) fn answer_scaled(v: &Ratio, scale: u128) -> Option<i128>
     ensures { IfSome result (λ m. whole m ≡ whole (pos scale) *ℚ rational v.now) }
 {
-    let number = narrow(v)?;
-    scaled(number, scale)
+    let den = v.denominator().narrow()?;
+    let num = signed(v.numerator())?;
+    let times = share_of(scale, den)?;
+    let made = product(num, times)?;
+    Some(made)
 }
 
-/// A common denominator of a fraction and of numbers of an answer, where it isn't 0.
-pub(crate) fn common_scale(first: Frac128, rest: &[Ratio]) -> Option<u128>
+/// A common multiple of a number and of the denominators of numbers of an answer, where it isn't 0.
+pub(crate) fn common_scale(first: u128, rest: &[Ratio]) -> Option<u128>
     ensures { IfSome result (λ scale. 1 ≤ scale) }
 {
-    let scale = answers_multiple(first.denominator().unsigned_abs(), rest)?;
+    let scale = answers_multiple(first, rest)?;
     if scale < 1 {
         return None;
     }

@@ -13,7 +13,7 @@ use crate::scale::{is_number, product};
 use crate::slopes::{Tally, number_at, with_rows};
 use crate::table::{Table, WholeRow};
 use crate::totals::over_scales;
-use crate::vertices::{basic_number, side};
+use crate::vertices::side;
 use frac_core::{Exact, Frac128, List};
 use loss_model::{Problem, Side};
 use ratio::Ratio;
@@ -36,10 +36,7 @@ fn basic_at(end: End<'_>, row: usize, scale: u128, cost_scale: u128) -> Option<i
     match side(end.vertex, row) {
         Side::Up => Some(0),
         Side::Down => Some(0),
-        Side::Basic => {
-            let value = basic_number(end.vertex, end.basic, row)?;
-            basic_dual(value, scale, cost_scale)
-        }
+        Side::Basic => basic_dual(end, row, scale, cost_scale),
     }
 }
 

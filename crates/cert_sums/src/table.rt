@@ -152,7 +152,7 @@ fn cell_scale(rows: &[Row<Frac128>]) -> Option<u128> {
     let mut scale = 1;
     for i in 0..rows.len() {
         scale = common_multiple(scale, rows[i].x.as_slice())?;
-        scale = multiple(scale, rows[i].y)?;
+        scale = multiple(scale, rows[i].y.denominator().unsigned_abs())?;
     }
     Some(scale)
 }

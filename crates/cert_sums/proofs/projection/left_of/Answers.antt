@@ -2,7 +2,7 @@
 use Rattle.std.proofs.Common.{rules, ◌≡◌, ◌<◌, ◌*◌, ap, subst, length, arith}
 use Rattle.rational_laws.specs.Rational.{◌*ℚ◌}
 use Rattle.frac_core.specs.Values.{value as value128}
-use Rattle.loss_model.specs.Problem.{sample, value_at}
+use Rattle.loss_model.specs.Problem.{number_at, sample}
 use Rattle.rank_model.specs.Restricted.{projected}
 use Rattle.cert_sums.specs.declared.duals.Duals.{Duals}
 use Rattle.cert_sums.specs.Duals.{IsDuals}
@@ -32,5 +32,5 @@ returns c =
     let numbers = c.in_ok-numbers.ensures {u = tt} in
     let made = rw (c.as_slice-2.ensures) at (c.in_ok-values.ensures {u = tt}) in
     let d : Duals = record { scale = all; values = values } in
-    subst (λ xs. IsDuals p t (λ i. (sample value128 p).up1 i *ℚ projected (sample value128 p) j (value_at value128 xs) i) d) c.as_slice-factors.ensures
+    subst (λ xs. IsDuals p t (λ i. (sample value128 p).up1 i *ℚ projected (sample value128 p) j (number_at xs) i) d) c.as_slice-factors.ensures
     (left_duals p t c.requires factors j same within scale c.in_ok-numbers.numbers numbers.size numbers.each numbers.last d (c.in_ok-scale.ensures {u = tt}) product made.size made.each)
