@@ -106,8 +106,9 @@ impl<'a, F: Exact> FractionTableau<'a, F> {
     {
         let solution = self.solution()?;
         let sorted = ascending(self.alloc(), self.basis().rows.as_slice())?;
+        // Lent again, since `self` is asked for more after it.
         let view = BasisView {
-            tableau: self,
+            tableau: &*self,
             solution: &solution,
         };
         let Ends { low, high } = view.ends_at(sorted.as_slice(), from, to)?;

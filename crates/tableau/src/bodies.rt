@@ -121,12 +121,7 @@ impl<'a, F: Exact> Tableau<'a, F> {
 
     /// The segment of the basis from one quantile to another, where whole numbers take over what the segment before it
     /// has at its upper end. What is refused is refused to each walk of which this is a segment.
-    pub fn segment(
-        &self,
-        last: Option<&Segment>,
-        from: F,
-        to: F,
-    ) -> Result<Segment, Failure<F>>
+    pub fn segment(&self, last: Option<&Segment>, from: F, to: F) -> Result<Segment, Failure<F>>
         requires carried { IfSome (option_copied last) (IsCarried F.value (place_of F.value self.now) (rational (F.value from))) }
         ensures segment { IfOk result (IsSegmentHere F.value (place_of F.value self.now) (rational (F.value from)) (rational (F.value to))) }
         ensures refused { (hi : ℚ) → IsSegmentTo F.value (place_of F.value self.now) (rational (F.value from)) hi (rational (F.value to)) → IfErr result (IsRefusedOf (IsRefusalAt F.value F.range (place_of F.value self.now) (walking (rational (F.value from)) hi))) }

@@ -42,13 +42,8 @@ pub struct Solution<'a, F: Exact> {
 #[derive(Drop)]
 pub enum Halt<F> {
     OutOfMemory,
-    PivotLimit {
-        trail: Trail,
-    },
-    Refused {
-        trail: Trail,
-        refusal: Refusal<F>,
-    },
+    PivotLimit { trail: Trail },
+    Refused { trail: Trail, refusal: Refusal<F> },
 }
 
 /// The rows of a basis as a start in which every position holds one.

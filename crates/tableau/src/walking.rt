@@ -31,10 +31,7 @@ pub struct Walk<'a, F: Exact> {
 }
 
 /// Puts a segment to the others.
-fn push_segment<F: Exact>(
-    segments: &mut List<Segment>,
-    segment: Segment,
-) -> Result<(), Failure<F>>
+fn push_segment<F: Exact>(segments: &mut List<Segment>, segment: Segment) -> Result<(), Failure<F>>
     ensures pushed { OnOk result (segments.new ≡ segments.old ++ segment ∷ []) }
     ensures memory { IfErr result (λ r. r ≡ OutOfMemory) }
 {
@@ -174,12 +171,7 @@ fn walk_over<'a, F: Exact>(
 }
 
 /// The process of a walk that is at its end, with the segment up to hi.
-fn end_walk<'a, F: Exact>(
-    walk: Walk<'a, F>,
-    lo: F,
-    hi: F,
-    limit: u32,
-) -> Result<Process, Halt<F>>
+fn end_walk<'a, F: Exact>(walk: Walk<'a, F>, lo: F, hi: F, limit: u32) -> Result<Process, Halt<F>>
     requires costs { HasCosts (sample_of F.value (here_of F.value walk)) (rational (F.value hi)) }
     requires out { IsWalkedOut F.value (here_of F.value walk).task (rational (F.value lo)) (rational (F.value hi)) limit walk }
     ensures done { IfOk result (IsWalkDone F.value (here_of F.value walk.entry).task (rational (F.value lo)) (rational (F.value hi)) limit) }

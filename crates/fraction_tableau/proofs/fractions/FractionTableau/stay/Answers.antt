@@ -41,3 +41,18 @@ returns-clause-segment g c =
     segment_here value h (kept_is_place value k c.basis.ensures.kept) c.in_ok-coef.coef coefs sol.sides (sides_by value h sol solved)
     c.in_ok-sorted.sorted ordered.increasing ordered.size ordered.same (rational (value c.args.from)) (rational (value c.args.to)) c.in_ok-lo.lo c.in_ok-hi.hi
     c.in_ok-low.field-0.low c.in_ok-low.field-0.high (ap rational (c.in_ok-lo.ensures {u = tt})) (ap rational (c.in_ok-hi.ensures {u = tt})) low high
+
+pub returns-in_err-coef-clause-refused : goal.returns-in_err-coef-clause-refused
+returns-in_err-coef-clause-refused g c = λ hi stay.
+    let returned = err_from_is_err_and c.from_residual-in_err-coef.result c.from_residual-in_err-coef.ensures.1 in
+    rw (returned.1, returned.2) tt
+
+pub returns-in_err-lo-clause-refused : goal.returns-in_err-lo-clause-refused
+returns-in_err-lo-clause-refused g c = λ hi stay.
+    let returned = err_from_is_err_and c.from_residual-in_err-lo.result c.from_residual-in_err-lo.ensures.1 in
+    rw (returned.1, returned.2) tt
+
+pub returns-in_err-hi-clause-refused : goal.returns-in_err-hi-clause-refused
+returns-in_err-hi-clause-refused g c = λ hi stay.
+    let returned = err_from_is_err_and c.from_residual-in_err-hi.result c.from_residual-in_err-hi.ensures.1 in
+    rw (returned.1, returned.2) tt
