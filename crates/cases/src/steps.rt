@@ -6,7 +6,6 @@
 ghost use Rattle.std.specs.Prelude.{◌≡◌, ◌+◌, ◌<◌, ◌≤◌, ◌^◌, All, IsTrue, length};
 
 use crate::numbers::{number_of, numbers_of};
-use crate::ratios::tell_ratio;
 use crate::told::Told;
 use frac_core::{Exact, Frac128, List};
 use loss_model::{Basis, Process, Segment, Short, Trail, Vertex};
@@ -82,9 +81,9 @@ fn tell_rearranged(told: &mut Told, steps: &[RearrangedStep<Frac128>]) {
     let mut mark = "";
     for step in steps {
         told.put(mark);
-        tell_ratio(told, &step.lo);
+        told.put_ratio(&step.lo);
         told.put(" ");
-        tell_ratio(told, &step.hi);
+        told.put_ratio(&step.hi);
         told.put(" ");
         told.put_number(step.value);
         mark = "; ";
