@@ -21,7 +21,8 @@ fn combine(alloc: Global, numbers: &mut Vec<Ratio>, word: &str) -> Option<Ratio>
     combined(alloc, word, &left, &right)
 }
 
-fn widened(alloc: Global, text: &str) -> Option<Ratio> {
+/// The number of a text, in any size.
+pub(crate) fn widened(alloc: Global, text: &str) -> Option<Ratio> {
     Ratio::widen(alloc, number_of(text)?).ok()
 }
 
