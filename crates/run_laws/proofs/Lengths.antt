@@ -87,7 +87,7 @@ member_long later k d ms =
     )
 
 -- a segment has eight keys of 43 bytes together
-segment_long : (s : Segment Frac128) → 64 ≤ length (compact_text (segment_tree s))
+segment_long : (s : Segment) → 64 ≤ length (compact_text (segment_tree s))
 unfolding segment_tree
 segment_long s =
     let basic_hi : length (codes "basic_hi") ≡ 8 = refl in
@@ -126,7 +126,7 @@ segment_long s =
     )
 
 -- one that says only what changes has five keys of 26 bytes together, and two lists that aren't empty
-later_long : (before s : Segment Frac128) → 1 ≤ length s.basic_hi → 1 ≤ length s.vertex.coef → 64 ≤ length (compact_text (later_tree before s))
+later_long : (before s : Segment) → 1 ≤ length s.basic_hi → 1 ≤ length s.vertex.coef → 64 ≤ length (compact_text (later_tree before s))
 unfolding later_tree
 later_long before s valued some =
     let comma : length (comma_if true) ≡ 1 = refl in
@@ -162,7 +162,7 @@ later_long before s valued some =
 
 -- ---- lists
 
-items_long : (later : Bool) (xs : List (Segment Frac128)) → 64 * length xs ≤ length (items_text later (items_of (map segment_tree xs)))
+items_long : (later : Bool) (xs : List Segment) → 64 * length xs ≤ length (items_text later (items_of (map segment_tree xs)))
 items_long later [] = omega arith
 items_long later (x ∷ xs) =
     let d = compact_text (segment_tree x) in
@@ -170,14 +170,14 @@ items_long later (x ∷ xs) =
     omega (arith, segment_long x, items_long true xs, length-append d behind, length-append (comma_if later) (d ++ behind))
 
 -- a segment has a dual value at its high end, and a coefficient
-abbrev pub HasEntries : Segment Frac128 → Type 0
+abbrev pub HasEntries : Segment → Type 0
 HasEntries s = (1 ≤ length s.basic_hi) × (1 ≤ length s.vertex.coef)
 
-linked_long : (before : Option (Segment Frac128)) (s : Segment Frac128) → HasEntries s → 64 ≤ length (compact_text (linked_tree before s))
+linked_long : (before : Option Segment) (s : Segment) → HasEntries s → 64 ≤ length (compact_text (linked_tree before s))
 linked_long None s h = segment_long s
 linked_long (Some before) s h = later_long before s h.0 h.1
 
-chain_long : (later : Bool) (before : Option (Segment Frac128)) (ss : List (Segment Frac128)) → All HasEntries ss → 64 * length ss ≤ length (items_text later (items_of (linked_trees before ss)))
+chain_long : (later : Bool) (before : Option Segment) (ss : List Segment) → All HasEntries ss → 64 * length ss ≤ length (items_text later (items_of (linked_trees before ss)))
 chain_long later before [] h = omega arith
 chain_long later before (s ∷ ss) h =
     let d = compact_text (linked_tree before s) in
@@ -190,7 +190,7 @@ chain_long later before (s ∷ ss) h =
       length-append (comma_if later) (d ++ behind),
     )
 
-segments_long : (c : Cert) (ss : List (Segment Frac128)) → All HasEntries ss → 64 * length ss ≤ length (compact_text (segments_tree (layout c) ss))
+segments_long : (c : Cert) (ss : List Segment) → All HasEntries ss → 64 * length ss ≤ length (compact_text (segments_tree (layout c) ss))
 segments_long c ss h = by (is_chained (content c)) refl
   where
     by : (b : Bool) → is_chained (content c) ≡ b → 64 * length ss ≤ length (compact_text (segments_tree (layout c) ss))

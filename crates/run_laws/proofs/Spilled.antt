@@ -32,20 +32,20 @@ module _ {F : Type 0} (value : F → Fraction) (range : ℕ) (s : Spill F) (p : 
   abbrev Here : Type 0
   Here = DoesOverflow value range s
 
-  ended : (n number end : ℕ) (v : Vertex F) (basic : List F) (theta : ℚ) → IsEndSpill value range p n number end v basic theta s → Here
+  ended : (n number end : ℕ) (v : Vertex) (basic : List Fraction) (theta : ℚ) → IsEndSpill value range p n number end v basic theta s → Here
   ended n number end v basic theta h =
       among value range s (score_site h.row end number) 1 (score_operations (dual_value value p v basic theta h.row) ((sample value p).up1 h.row) theta) h.operation
 
-  scored : (n number : ℕ) (segment : Segment F) → IsScoresSpill value range p n number segment s → Here
-  scored n number segment (inl h) = ended n number 0 segment.vertex segment.basic_lo (rational (value segment.lo)) h
-  scored n number segment (inr h) = ended n number 1 segment.vertex segment.basic_hi (rational (value segment.hi)) h
+  scored : (n number : ℕ) (segment : Segment) → IsScoresSpill value range p n number segment s → Here
+  scored n number segment (inl h) = ended n number 0 segment.vertex segment.basic_lo (rational segment.lo) h
+  scored n number segment (inr h) = ended n number 1 segment.vertex segment.basic_hi (rational segment.hi) h
 
-  pub of_fit : (n : ℕ) (lo hi : ℚ) (limit : ℕ) (trail : Trail F) → IsFitSpill value range p n lo hi limit trail s → Here
+  pub of_fit : (n : ℕ) (lo hi : ℚ) (limit : ℕ) (trail : Trail) → IsFitSpill value range p n lo hi limit trail s → Here
   of_fit n lo hi limit trail (inl h) = of_process value range s p lo hi limit trail h
   of_fit n lo hi limit trail (inr h) = scored n h.operation.number h.operation.segment h.operation.operation
 
 -- of a prediction
-pub of_row : (segments : List (Segment Frac128)) (row : PredictRow) (s : Spill Frac128) → IsRowSpill segments row s → DoesOverflow value most s
+pub of_row : (segments : List Segment) (row : PredictRow) (s : Spill Frac128) → IsRowSpill segments row s → DoesOverflow value most s
 of_row segments row s h = predicted h.operation
   where
     predicted : IsPredictionSpill value most (site_of Prediction row.rec h.number 0) row.x row.offsets h.segment.vertex.coef s → DoesOverflow value most s
@@ -53,7 +53,7 @@ of_row segments row s h = predicted h.operation
     predicted (inr k) = operation value most s k.2
 
 -- of the process without tested columns
-pub of_scored : (fit : FitJob) (p : Problem Frac128) (trail : Trail Frac128) (s : Spill Frac128) → HasScoredCause fit p (Overflow places.Process trail s) → DoesOverflow value most s
+pub of_scored : (fit : FitJob) (p : Problem Frac128) (trail : Trail) (s : Spill Frac128) → HasScoredCause fit p (Overflow places.Process trail s) → DoesOverflow value most s
 of_scored fit p trail s h = of_process value most s p (rational (value fit.lo)) (rational (value fit.hi)) fit.limit trail h
 
 -- of the costs of a path: the first of their operations that overflows

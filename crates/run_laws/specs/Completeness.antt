@@ -218,7 +218,7 @@ CheckIsAnswered =
 -- some trail of the problem reaches the limit of the words
 abbrev pub IsLimitedProblem : FitJob → Problem Frac128 → Type 0
 IsLimitedProblem fit problem =
-    IsLimited {F = Frac128} value (sample value problem) (rational (value fit.lo)) (rational (value fit.hi)) fit.limit
+    IsLimited (sample value problem) (rational (value fit.lo)) (rational (value fit.hi)) fit.limit
 
 -- the place is the process
 abbrev pub IsAtProcess : Place → Type 0
@@ -283,13 +283,13 @@ parts_of other = 0
 -- where the limit is at least so many times these bases, it stops neither the process nor the interval
 abbrev pub AmpleLimitIsNeverReached : Type 0
 AmpleLimitIsNeverReached =
-    (words : List (List ℕ)) (source source' out out' err err' : Stream) (place : Place) (limit : ℕ) (trail : Trail Frac128)
+    (words : List (List ℕ)) (source source' out out' err err' : Stream) (place : Place) (limit : ℕ) (trail : Trail)
     → ((fit : FitJob) (problem : Problem Frac128) → WasPosed words source source' fit problem
     → (parts_of place * further_bases (sample value problem)) ≤ fit.limit)
     → ¬ IsRun words source source' out out' err err' (PivotLimit place limit trail)
 
 -- an operation in the start of the problem of a fit overflows
-abbrev pub StartOverflows : List (List ℕ) → (before now : Stream) → Trail Frac128 → Spill Frac128 → Type 0
+abbrev pub StartOverflows : List (List ℕ) → (before now : Stream) → Trail → Spill Frac128 → Type 0
 StartOverflows words before now trail spill =
     (fit : FitJob) × (input : Input) × WasInput words before now fit input × IsStartSpill value most input.problem trail spill
 
