@@ -195,7 +195,7 @@ fn test_of<F: Exact>(alloc: Global, problem: &Problem<F>, text: &str) -> Option<
 pub(crate) fn tell_test<F: Exact>(told: &mut Told, problem: &Problem<F>, text: &str) {
     match test_of(told.alloc(), problem, text) {
         Some(test) => {
-            told.put_fractions(test.factors.as_slice());
+            told.put_ratios(test.factors.as_slice());
             told.put("; ");
             told.put_fraction(test.bound);
         }
