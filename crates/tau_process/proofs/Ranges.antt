@@ -1,5 +1,5 @@
 -- What is answered to a walk: a process, or the stop of what halts it.
-use Rattle.std.specs.Prelude.{◌≡◌, ◌≤◌, ℕ, length, Some}
+use Rattle.std.specs.Prelude.{◌≡◌, ℕ, length, Some}
 use Rattle.std.proofs.Common.{Ok, Err, refl, sym, subst, inl, inr}
 use Rattle.rational_laws.specs.Fraction.{Fraction}
 use Rattle.rational_laws.specs.Rational.{ℚ, ◌≤ℚ◌}
