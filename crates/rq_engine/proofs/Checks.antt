@@ -1,20 +1,16 @@
--- A certificate that was read is within the limits; why it has no verdict.
-use Rattle.std.proofs.Common.{◌≡◌, ◌*◌, ◌≤◌, ℕ, Bool, true, false, List, Ok, Err, length, nat_lt, if◌then◌else◌, arith, refl, ap₂, subst}
+-- A certificate that was read is within the limits.
+use Rattle.std.proofs.Common.{◌≡◌, ◌*◌, ◌≤◌, ℕ, Bool, true, false, List, Ok, Err, length, nat_lt, if◌then◌else◌, arith, refl, ap, subst}
 use Rattle.std.proofs.lemmas.Bool.{ltb-false, or_parts}
 use Rattle.std.proofs.lemmas.List.{length-map}
 use Rattle.serde_json.specs.Find.{as_object}
 use Rattle.frac_core.specs.Limits.{most_columns, most_rows}
 use Rattle.loss_model.specs.Values.{exact_row}
 use Rattle.cert_text.specs.Certificates.{cert_of, cert_of_data, is_too_large, json_of, layout_of, or_not_json, or_version, top_members, version_of, within_limits}
-use Rattle.cert_text.specs.Contents.{Content, content, exact_interval, exact_segment}
+use Rattle.cert_text.specs.Contents.{Content, content}
 use Rattle.cert_text.specs.Limits.{IsWithinLimits, most_intervals, most_segments, most_sides}
 use Rattle.cert_text.specs.Reading.{Reading, on_read, or_shape}
 use Rattle.cert_text.specs.declared.cert.Cert.{Cert}
 use Rattle.cert_text.specs.declared.fault.CertFault.{CertFault}
-use Rattle.cert_checker.specs.Certificates.{IsStop, IsUntrue}
-use Rattle.cert_checker.specs.declared.verdict.CheckStop.{CheckStop}
-use Rattle.cert_checker.specs.declared.verdict.CheckStop.TheVariants as stops
-use Rattle.rq_engine.specs.Checks.{HasCheckCause, IsCertOf, check_halt}
 use Rattle.cert_text.specs.declared.fault.CertFault.TheVariants.{TooLarge}
 
 -- what was read was read step by step
@@ -44,16 +40,11 @@ read_within bytes cert h =
     let rows = or_parts (nat_lt most_rows (length c.problem.rows)) _ columns.1 in
     let segments = or_parts (nat_lt most_segments (length c.segments)) _ rows.1 in
     let intervals = or_parts (nat_lt most_intervals (length c.intervals)) (nat_lt most_sides (length c.problem.rows * length c.segments)) segments.1 in
-    let sides = ap₂ (λ (rows segments : ℕ). rows * segments) (length-map cert.problem.rows exact_row) (length-map cert.segments exact_segment) in
+    let sides = ap (λ (rows : ℕ). rows * length cert.segments) (length-map cert.problem.rows exact_row) in
     record {
       columns = ltb-false most_columns c.problem.columns columns.0;
       rows = omega (arith, ltb-false most_rows (length c.problem.rows) rows.0, length-map cert.problem.rows exact_row);
-      segments = omega (arith, ltb-false most_segments (length c.segments) segments.0, length-map cert.segments exact_segment);
-      intervals = omega (arith, ltb-false most_intervals (length c.intervals) intervals.0, length-map cert.intervals exact_interval);
+      segments = ltb-false most_segments (length c.segments) segments.0;
+      intervals = ltb-false most_intervals (length c.intervals) intervals.0;
       sides = subst (λ (n : ℕ). n ≤ most_sides) sides (ltb-false most_sides (length c.problem.rows * length c.segments) intervals.1);
     }
-
--- why there is no verdict
-pub stop_cause : (bytes : List ℕ) (cert : Cert) → IsCertOf bytes cert → (stop : CheckStop) → IsStop cert stop → IsUntrue cert stop → HasCheckCause bytes (check_halt stop)
-stop_cause bytes cert is stops.OutOfMemory h k = tt
-stop_cause bytes cert is (stops.Overflow spill) h k = (refl, record { cert = cert; is = is; operation = h; untrue = k })

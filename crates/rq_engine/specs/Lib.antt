@@ -3,7 +3,6 @@ pub mod Asks
 pub mod Fit
 pub mod Halts
 pub mod Intervals
-pub mod Lacking
 pub mod PathHalts
 pub mod Paths
 pub mod Predicted

@@ -12,9 +12,8 @@ ghost use Rattle.rq_engine.specs.Certifying.{IsKept, IsLengthHalt};
 
 use crate::fit::fit_input;
 use cert_text::{Cert, write_cert};
-use frac_core::{Exact, Frac128, List, OutOfMemory};
+use frac_core::{List, OutOfMemory};
 use loss_model::{Interval, IntervalProof};
-use rank_inversion::Purpose;
 use report_text::{Fit, Halt, Refusal};
 use rq_fan::Gate;
 use rq_input::{Input, read_input};
@@ -29,7 +28,7 @@ const MOST_BYTES: u64 = 1 << 26;
 const MOST_SIDES: usize = 1 << 30;
 
 // What a certificate states of an interval that lists the factors of its projection.
-fn proof_of<F: Exact>(interval: Interval<F>) -> IntervalProof<F>
+fn proof_of(interval: Interval) -> IntervalProof
     requires { HasFactors interval }
     ensures { Some result ≡ statement interval }
 {
@@ -56,10 +55,10 @@ fn proof_of<F: Exact>(interval: Interval<F>) -> IntervalProof<F>
 }
 
 // What a certificate states of each of the intervals.
-fn proofs<F: Exact>(
+fn proofs(
     alloc: Global,
-    intervals: List<Interval<F>>,
-) -> Result<List<IntervalProof<F>>, OutOfMemory>
+    intervals: List<Interval>,
+) -> Result<List<IntervalProof>, OutOfMemory>
     requires { All HasFactors intervals }
     ensures { IfOk result (λ proofs. map Some proofs ≡ map statement intervals) }
 {
@@ -134,7 +133,7 @@ fn certify_input<R: Threads + Sync, G: Gate>(
     ensures written { IfOk result IsWritten }
     ensures cause { IfErr result (HasCertifiedCause job.now input) }
 {
-    let fit = match fit_input(rt, alloc, job, Purpose::Certificate, input, gate) {
+    let fit = match fit_input(rt, alloc, job, input, gate) {
         Ok(fit) => fit,
         Err(halt) => return Err(halt),
     };

@@ -29,9 +29,8 @@ use std::thread::Threads;
 /// - `Rejected` is the verdict of `check` on a certificate.
 /// - `PivotLimit` comes only where the lawful trail of the problem, or of a rank interval that its place names, has as
 ///   many pivots as the job's limit says and one more is left.
-/// - `Overflow` comes only where an operation overflows: of the solve at the low end, of the walk, of a rankscore, of the
-///   rank interval that its place names, of the start of the whole problem of a rank test, of the costs of a path, of a
-///   prediction or of the checker.
+/// - `Overflow` comes only where an operation overflows: of the solve at the low end, of the walk, of the rank interval that its place
+///   names, of the start of the whole problem of a rank test, or of the costs of a path.
 /// - `OutOfMemory` may come at any step.
 ///
 /// A stop of an interval is that of the first that stops, quantile by quantile as given and column by column within. The

@@ -25,6 +25,7 @@ mod check;
 mod fit;
 mod halt;
 mod job;
+mod lowest;
 mod path;
 mod predict;
 mod process;
