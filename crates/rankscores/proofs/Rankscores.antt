@@ -1,6 +1,6 @@
 -- The rankscore of the basic row at a place of the list.
-use Rattle.std.proofs.Common.{◌≡◌, ◌≢◌, ◌<◌, ◌≤◌, ◌+◌, ℕ, Bool, List, [], ◌∷◌, ◌++◌, All, length, map, get_or, slice_index, take, Contains, pos, arith, refl, sym, ap, subst, ◌∙◌, if◌then◌else◌}
-use Rattle.std.proofs.lemmas.Bool.{le-ltb, lt-ltb}
+use Rattle.std.proofs.Common.{◌≡◌, ◌<◌, ◌≤◌, ◌+◌, ℕ, Bool, List, [], ◌∷◌, ◌++◌, All, length, map, get_or, slice_index, take, Contains, pos, arith, refl, sym, ap, subst, ◌∙◌, if◌then◌else◌}
+use Rattle.std.proofs.lemmas.Bool.{le-ltb}
 use Rattle.std.proofs.lemmas.List.{map-append, take_more}
 use Rattle.std.proofs.lemmas.List.Elements.{All-append, All-cons, All-nil}
 use Rattle.std.proofs.lemmas.Option.{slice_get_read}
@@ -41,14 +41,10 @@ module _ {F : Type 0} (value : F → Fraction) (p : Problem F) (v : Vertex) (bas
         ap (λ e. ((e *ℚ inverse weight) +ℚ whole (pos 1)) -ℚ rational theta) (is_dual ∙ sym dual_at_place)
         ∙ ap (λ w. ((dual_value value p v basic (rational theta) row *ℚ inverse w) +ℚ whole (pos 1)) -ℚ rational theta) is_weight
 
--- the score of a data row, and of a later one
+-- what is told of a later row
 module _ {F : Type 0} (value : F → Fraction) (p : Problem F) (n : ℕ) (v : Vertex) (basic : List Fraction) (theta : Fraction) (row : ℕ) where
   told : Bool → ℚ
   told b = if b then score value p v basic theta row else dual_of value p v basic theta row
-
-  pub data_score : row < n → score value p v basic theta row ≡ row_score value p n v basic theta row
-  unfolding told
-  data_score h = ap told (sym (lt-ltb row n h))
 
   pub later_score : n ≤ row → dual_of value p v basic theta row ≡ row_score value p n v basic theta row
   unfolding told
@@ -69,9 +65,6 @@ module _ {F : Type 0} (value : F → Fraction) (p : Problem F) (s : Segment) (ok
   module _ (all : List (Row F)) (all_is : all ≡ p.rows) (r : Row F) (r_is : r ≡ get_or all row r) where
     weight_read : rational (value r.up1) ≡ (sample value p).up1 row
     weight_read = sym (row_read p.rows (λ r. rational (value r.up1)) row r inside_read (r_is ∙ ap (λ xs. get_or xs row r) all_is))
-
-    pub weight_not_zero : (sample value p).up1 (slice_index s.vertex.basis.rows place) ≢ whole (pos 0) → rational (value r.up1) ≢ whole (pos 0)
-    weight_not_zero weighted e = weighted (ap (sample value p).up1 (sym at_read) ∙ sym weight_read ∙ e)
 
     pub score_read : (basic : List Fraction) (theta : Fraction) (values : List Fraction) (x : Fraction) → length basic ≡ length s.vertex.basis.rows → values ≡ basic → x ≡ get_or values place x
         → ((rational x *ℚ inverse (rational (value r.up1))) +ℚ whole (pos 1)) -ℚ rational theta ≡ score value p s.vertex basic theta row
