@@ -1,5 +1,5 @@
 -- The interval of both walks, and why it stops.
-use Rattle.std.specs.Prelude.{◌≡◌, ◌⊎◌, ◌+◌, ◌≤◌, ◌<◌, ℕ, List, [], length, Some, pos}
+use Rattle.std.specs.Prelude.{◌≡◌, ◌⊎◌, ◌+◌, ◌≤◌, ◌<◌, ℕ, List, [], length, pos}
 use Rattle.std.proofs.Common.{Err, arith, refl, sym, ap, subst, ◌∙◌, inl, inr}
 use Rattle.rational_laws.specs.Fraction.{Fraction, rational}
 use Rattle.rational_laws.specs.Rational.{ℚ, whole, ◌≤ℚ◌}

@@ -175,7 +175,7 @@ impl<'a, F: Exact> Inversion<'a, F> {
         requires tested { IsTested F.value self.now.problem.now self.now.asked (record { asked = self.now.asked; factors = factors; bound = self.now.bound }) }
         requires risen { IsRisen F.value self.now rise }
         requires fallen { IsFallen F.value self.now rise.steps fall }
-        ensures interval { IfOk result (IsRankInterval F.value self.now.problem.now self.now.asked.column self.now.asked.tau self.now.asked.crit self.now.limit) }
+        ensures { IfOk result (IsRankInterval F.value self.now.problem.now self.now.asked.column self.now.asked.tau self.now.asked.crit self.now.limit) }
     {
         let interval = joined(alloc, &self.solved.trail, self.asked, factors, rise, fall)?;
         Ok(interval)
