@@ -121,7 +121,10 @@ fn decide_sums<R: Threads + Sync, G: Gate>(
     let list = jobs.list;
     match jobs.decide(rt, Together { quick, list }) {
         Ok(()) => Ok(()),
-        Err(_) => decide_apart(rt, jobs, quick),
+        Err(halt) => {
+            drop(halt);
+            decide_apart(rt, jobs, quick)
+        }
     }
 }
 
