@@ -40,6 +40,7 @@ use Rattle.report_text.specs.declared.report.Refusal.TheVariants.{Dependent}
 use Rattle.rq_engine.specs.Fit.{IsOptimalAt, IsOptimalWithin, IsRightFit, IsRightProcess, IsRightSegment, mixed_dual}
 use Rattle.rq_engine.specs.Halts.{interval_halt, stop_halt}
 use Rattle.rq_engine.specs.Intervals.{AreRightIntervals, asked_by, asked_over, IsFirstStop}
+use Rattle.rq_engine.specs.Lowest.{IsLowestInterval, IsLowestPair}
 use Rattle.rq_engine.specs.RankProblems.{HasIntervalCause}
 use Rattle.rank_inversion.specs.declared.asks.IntervalStop.{IntervalStop}
 use Rattle.rank_inversion.specs.declared.column_test.Asked.{Asked}
@@ -169,13 +170,15 @@ module _ (job : FitJob) (n : ℕ) (p : Problem Frac128) (q : Process) (scores : 
       }
 
   pub right_fit : IsWellShaped p → IsRightProcess value job p q → AllZip (IsScored value p n) q.segments scores → AreRightIntervals value p job.limit (asked_by job.rank p.columns) intervals
-      → (fit : Fit) → fit.process ≡ q → fit.scores ≡ scores → fit.intervals ≡ intervals → fit.problem ≡ p → fit.data_rows ≡ n → IsRightFit value job fit
-  right_fit shaped right_process scored right fit process told made problem data_rows =
+      → All (All IsLowestPair) scores → All IsLowestInterval intervals → (fit : Fit) → fit.process ≡ q → fit.scores ≡ scores → fit.intervals ≡ intervals → fit.problem ≡ p → fit.data_rows ≡ n → IsRightFit value job fit
+  right_fit shaped right_process scored right lowest_scores lowest_intervals fit process told made problem data_rows =
       subst (IsRightFit value job) (sym same) (record {
         shaped = shaped;
         process = right_process;
         scores = scored;
         intervals = right;
+        lowest_scores = lowest_scores;
+        lowest_intervals = lowest_intervals;
       })
     where
       same : fit ≡ whole_fit fit

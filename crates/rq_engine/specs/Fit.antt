@@ -22,6 +22,7 @@ use Rattle.tau_process.specs.Stops.{IsLimited}
 use Rattle.rq_words.specs.declared.job.FitJob.{FitJob}
 use Rattle.rankscores.specs.Scores.{IsScored}
 use Rattle.rq_engine.specs.Intervals.{AreRightIntervals, asked_by}
+use Rattle.rq_engine.specs.Lowest.{IsLowestInterval, IsLowestPair}
 use Rattle.report_text.specs.declared.report.Fit.{Fit}
 use Rattle.rq_input.specs.declared.input.Input.{Input}
 
@@ -67,12 +68,14 @@ pub record IsRightProcess (value : Frac128 → Fraction) (job : FitJob) (p : Pro
   pub unlimited : ¬ IsLimited (sample value p) (rational (value job.lo)) (rational (value job.hi)) job.limit
 
 -- the fit is right for the job: so is its process, its scores are the rankscores of the segments, and its rank intervals
--- are those that the job asks for
+-- are those that the job asks for; and these are in lowest terms
 pub record IsRightFit (value : Frac128 → Fraction) (job : FitJob) (fit : Fit) : Type 0 where
   pub shaped : IsWellShaped fit.problem
   pub process : IsRightProcess value job fit.problem fit.process
   pub scores : AllZip (IsScored value fit.problem fit.data_rows) fit.process.segments fit.scores
   pub intervals : AreRightIntervals value fit.problem job.limit (asked_by job.rank fit.problem.columns) fit.intervals
+  pub lowest_scores : All (All IsLowestPair) fit.scores
+  pub lowest_intervals : All IsLowestInterval fit.intervals
 
 -- the fit is of this input, and tells how many records its design has kept and dropped, the names of the design and
 -- of what the smooths add, and that a row of each record stands before the penalty rows

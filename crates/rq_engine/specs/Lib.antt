@@ -3,6 +3,7 @@ pub mod Asks
 pub mod Fit
 pub mod Halts
 pub mod Intervals
+pub mod Lowest
 pub mod PathHalts
 pub mod Paths
 pub mod Predicted

@@ -55,10 +55,7 @@ fn proof_of(interval: Interval) -> IntervalProof
 }
 
 // What a certificate states of each of the intervals.
-fn proofs(
-    alloc: Global,
-    intervals: List<Interval>,
-) -> Result<List<IntervalProof>, OutOfMemory>
+fn proofs(alloc: Global, intervals: List<Interval>) -> Result<List<IntervalProof>, OutOfMemory>
     requires { All HasFactors intervals }
     ensures { IfOk result (λ proofs. map Some proofs ≡ map statement intervals) }
 {

@@ -17,7 +17,7 @@ ghost use Rattle.rq_engine.specs.RankProblems.{HasIntervalCause};
 ghost use Rattle.rq_engine.specs.Stops.{HasProblemCause};
 
 use crate::halt::{interval_halt, stop_halt};
-use crate::lowest::all_lowest_segments;
+use crate::lowest::{all_lowest_intervals, all_lowest_scores, all_lowest_segments};
 use frac_core::{Exact, Frac128, List, OutOfMemory};
 use loss_model::{Interval, Problem, Process, Segment};
 use rank_inversion::{RankAsks, all_intervals};
@@ -162,6 +162,8 @@ pub(crate) fn fit_input<R: Threads + Sync, G: Gate>(
         Ok(intervals) => intervals,
         Err(halt) => return Err(halt),
     };
+    all_lowest_scores(scores.as_slice());
+    all_lowest_intervals(intervals.as_slice());
     match fit_of(input, walked, scores, intervals) {
         Ok(fit) => Ok(fit),
         Err(_) => Err(Halt::OutOfMemory),

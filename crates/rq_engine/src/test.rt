@@ -65,12 +65,7 @@ fn scored(alloc: Global, job: &TestJob, full: &Problem<Frac128>) -> Result<Score
 }
 
 // The test with what is told of the design. It takes no memory.
-fn fit_of(
-    design: Design,
-    tested: List<u32>,
-    process: Process,
-    found: NestedStatistic,
-) -> TestFit
+fn fit_of(design: Design, tested: List<u32>, process: Process, found: NestedStatistic) -> TestFit
     requires { length design.rows < 2 ^ 32 }
     ensures kept { result.kept ≡ length design.rows }
     ensures dropped { result.dropped ≡ design.dropped }

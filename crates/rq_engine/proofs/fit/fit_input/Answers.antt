@@ -36,7 +36,8 @@ returns-in-Ok-fit_of-clause-right g c =
       under = under;
       right = right_fit c.args.job.now (length c.args.input.design.rows) c.args.input.problem c.in-Ok.walked c.in-Ok-all_scores.scores c.in-Ok-job_intervals.intervals c.requires.rows.shaped
           (right_process c.args.job.now c.args.input.problem c.in-Ok.walked c.in-Ok.ensures.process c.in-Ok.ensures.short (rw c.as_slice-segments.ensures at c.all_lowest_segments.ensures) (λ some. c.in-Ok.ensures.limited some))
-          (rw c.as_slice-segments.ensures at (rw c.as_slice.ensures at c.in-Ok-all_scores.ensures)) c.in-Ok-job_intervals.ensures.right c.in-Ok-fit_of.fit c.in-Ok-fit_of.ensures.process
+          (rw c.as_slice-segments.ensures at (rw c.as_slice.ensures at c.in-Ok-all_scores.ensures)) c.in-Ok-job_intervals.ensures.right
+          (rw c.as_slice-2.ensures at c.all_lowest_scores.ensures) (rw c.as_slice-3.ensures at c.all_lowest_intervals.ensures) c.in-Ok-fit_of.fit c.in-Ok-fit_of.ensures.process
           c.in-Ok-fit_of.ensures.scores c.in-Ok-fit_of.ensures.intervals under.problem_is under.data_rows;
     }
 
