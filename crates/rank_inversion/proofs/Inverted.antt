@@ -143,7 +143,7 @@ module _ {F : Type 0} (value : F → Fraction) (v : Inversion F) (ready : IsRead
 
   -- ---- the interval
 
-  module _ (factors : List Fraction) (tested : IsTested value p v.asked (record { asked = v.asked; factors = factors; bound = v.bound })) (up down : Arrival) (h : IsRisen value v up) (k : IsFallen value v up.steps down) where
+  module _ (factors : List Fraction) (tested : IsTested value p v.asked (record { factors = factors; bound = v.bound })) (up down : Arrival) (h : IsRisen value v up) (k : IsFallen value v up.steps down) where
     same_bound : bound ≡ rank_bound tau crit (squared_length q j (number_at factors))
     same_bound = tested.bound
 

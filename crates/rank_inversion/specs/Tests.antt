@@ -9,9 +9,8 @@ use Rattle.rank_model.specs.Restricted.{IsProjection, squared_length, rank_bound
 use Rattle.rank_inversion.specs.declared.column_test.Asked.{Asked}
 use Rattle.rank_inversion.specs.declared.column_test.RankTest.{RankTest}
 
--- the test is that which is asked: by a projection of the column, which leaves a length, and the bound by it
+-- the test is by a projection of the column, which leaves a length, and the bound by it
 pub record IsTested {F : Type 0} (value : F → Fraction) (p : Problem F) (asked : Asked F) (t : RankTest F) : Type 0 where
-  pub same : t.asked ≡ asked
   pub size : length t.factors ≡ p.columns
   pub projection : IsProjection (sample value p) asked.column (number_at t.factors)
   pub positive : whole (pos 0) <ℚ squared_length (sample value p) asked.column (number_at t.factors)

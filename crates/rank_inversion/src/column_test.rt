@@ -25,7 +25,6 @@ pub struct Asked<F> {
 /// its statistic that is within the critical value.
 #[derive(Drop)]
 pub struct RankTest<F> {
-    pub asked: Asked<F>,
     pub factors: List<Ratio>,
     pub bound: F,
 }
@@ -62,11 +61,7 @@ fn measured<F: Exact>(
         Err(spill) => return Err(Short::Overflow(spill)),
     };
     let factors = widened(alloc, projected.factors.as_slice())?;
-    Ok(RankTest {
-        asked,
-        factors,
-        bound,
-    })
+    Ok(RankTest { factors, bound })
 }
 
 /// The rows of a start in which every position holds one.

@@ -14,7 +14,7 @@ ghost use Rattle.rank_inversion.specs.Stops.{IsWalkStop};
 ghost use Rattle.rank_inversion.specs.Tests.{IsTested};
 ghost use Rattle.rank_inversion.specs.Walks.{IsEnded, IsHalted};
 ghost use Rattle.rank_inversion.specs.Wholes.{IsStarted};
-ghost use Rattle.rank_inversion.specs.Inversions.{IsAskable, IsReady, course_of, trail_with, IsStopHere, IsRisen, IsFallen, IsRiseHalt, IsFallHalt};
+ghost use Rattle.rank_inversion.specs.Inversions.{IsAskable, IsReady, course_of, trail_with, IsStopHere, IsRisen, IsRiseHalt, IsFallHalt};
 
 use crate::column_test::{Asked, RankTest, rank_test};
 use crate::course::Course;
@@ -163,28 +163,10 @@ impl<'a, F: Exact> Inversion<'a, F> {
         }
     }
 
-    /// The interval of both ends, by the factors of the projection.
-    fn joined(
-        &self,
-        alloc: Global,
-        factors: List<Ratio>,
-        rise: Arrival,
-        fall: Arrival,
-    ) -> Result<Interval, OutOfMemory>
-        requires ready { IsReady F.value self.now }
-        requires tested { IsTested F.value self.now.problem.now self.now.asked (record { asked = self.now.asked; factors = factors; bound = self.now.bound }) }
-        requires risen { IsRisen F.value self.now rise }
-        requires fallen { IsFallen F.value self.now rise.steps fall }
-        ensures { IfOk result (IsRankInterval F.value self.now.problem.now self.now.asked.column self.now.asked.tau self.now.asked.crit self.now.limit) }
-    {
-        let interval = joined(alloc, &self.solved.trail, self.asked, factors, rise, fall)?;
-        Ok(interval)
-    }
-
     /// The interval: the rising walk gives the high end, and then the falling one the low end.
     fn interval(&self, alloc: Global, factors: List<Ratio>) -> Result<Interval, Stop<F>>
         requires ready { IsReady F.value self.now }
-        requires tested { IsTested F.value self.now.problem.now self.now.asked (record { asked = self.now.asked; factors = factors; bound = self.now.bound }) }
+        requires tested { IsTested F.value self.now.problem.now self.now.asked (record { factors = factors; bound = self.now.bound }) }
         ensures interval { IfOk result (IsRankInterval F.value self.now.problem.now self.now.asked.column self.now.asked.tau self.now.asked.crit self.now.limit) }
         ensures stopped { IfErr result (IsStopHere F.value F.range self.now) }
     {
@@ -198,7 +180,7 @@ impl<'a, F: Exact> Inversion<'a, F> {
             Ok(fall) => fall,
             Err(halt) => return Err(self.fall_stop(alloc, rise, halt)),
         };
-        match self.joined(alloc, factors, rise, fall) {
+        match joined(alloc, &self.solved.trail, self.asked, factors, rise, fall) {
             Ok(interval) => Ok(interval),
             Err(_) => Err(Stop::OutOfMemory),
         }
@@ -214,20 +196,21 @@ pub fn interval_from<F: Exact>(
     alloc: Global,
     problem: &Problem<F>,
     solved: &Solved<F>,
+    asked: Asked<F>,
     test: RankTest<F>,
     limit: u32,
 ) -> Result<Interval, Stop<F>>
-    requires asked { IsAskable F.value problem.now test.asked }
-    requires solved { IsSolution F.value problem.now (rational (F.value test.asked.tau)) solved.now }
+    requires asked { IsAskable F.value problem.now asked }
+    requires solved { IsSolution F.value problem.now (rational (F.value asked.tau)) solved.now }
     requires short { length solved.now.trail.steps ≤ limit }
-    requires tested { IsTested F.value problem.now test.asked test }
-    ensures interval { IfOk result (IsRankInterval F.value problem.now test.asked.column test.asked.tau test.asked.crit limit) }
-    ensures stopped { IfErr result (IsWalkStop F.value F.range problem.now test.asked.column (rational (F.value test.asked.tau)) (rational (F.value test.asked.crit)) limit) }
+    requires tested { IsTested F.value problem.now asked test }
+    ensures interval { IfOk result (IsRankInterval F.value problem.now asked.column asked.tau asked.crit limit) }
+    ensures stopped { IfErr result (IsWalkStop F.value F.range problem.now asked.column (rational (F.value asked.tau)) (rational (F.value asked.crit)) limit) }
 {
     let inversion = Inversion {
         problem,
         solved,
-        asked: test.asked,
+        asked,
         bound: test.bound,
         limit,
     };
@@ -266,7 +249,7 @@ fn by_parts<F: Exact>(
             return Err(stop);
         }
     };
-    match interval_from(alloc, problem, &solved, test, limit) {
+    match interval_from(alloc, problem, &solved, asked, test, limit) {
         Ok(interval) => {
             drop(solved);
             Ok(interval)

@@ -3,7 +3,8 @@
 //!
 //! The one contract for the layers above: `interval` bounds exactly the tested values that hold, with the
 //! lawful trail of the solve and of both walks, and what a certificate states of both ends; or it says what it
-//! had to stop for. Whole numbers answer first, and where they refuse all is done again by its parts, in fractions.
+//! had to stop for. Its numbers are of any size. Whole numbers answer first, and where they refuse all is done again by
+//! its parts, in fractions of limited size.
 //! For intervals of many columns at a quantile there are `start_in_wholes`, once, and `interval_after`, for each.
 //! `IntervalJob` is an interval as a job of `rq_fan`.
 //!

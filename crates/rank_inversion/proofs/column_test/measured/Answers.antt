@@ -1,4 +1,4 @@
-use Rattle.std.proofs.Common.{◌≡◌, length, map, pos, refl, ap, subst, ◌∙◌, inl, inr}
+use Rattle.std.proofs.Common.{◌≡◌, length, map, pos, ap, subst, ◌∙◌, inl, inr}
 use Rattle.std.proofs.lemmas.List.{length-map}
 use Rattle.std.proofs.lemmas.Result.{err_from_is_err_and}
 use Rattle.fraction_tableau.proofs.Refusals.{short_weaker}
@@ -51,7 +51,6 @@ returns-clause-tested g c =
     let read = read_wide value projected.factors c.in_ok-factors.factors wide in
     let length_is = made.length ∙ ap (squared_length s asked.column) read in
     record {
-      same = refl;
       size = ap length wide ∙ length-map projected.factors value ∙ made.size;
       projection = subst (IsProjection s asked.column) read made.projection;
       positive = subst (λ q. whole (pos 0) <ℚ q) length_is made.positive;

@@ -1,11 +1,4 @@
-use Rattle.std.proofs.Common.{sym, subst}
 use Rattle.rational_laws.specs.Fraction.{rational}
-use Rattle.br_pivot.specs.Solutions.{IsSolution}
-use Rattle.rank_inversion.specs.declared.column_test.Asked.{Asked}
-use Rattle.rank_inversion.specs.Intervals.{IsRankInterval}
-use Rattle.rank_inversion.specs.Inversions.{IsAskable}
-use Rattle.rank_inversion.specs.Stops.{IsWalkStop}
-use Rattle.rank_inversion.specs.Tests.{IsTested}
 use Rattle.rank_inversion.proofs.Causes.{bound_there, by_gram, by_test, by_solve, by_walks}
 use Rattle.rank_inversion.proofs.Inverted.{right_is, stop_is}
 use Rattle.rank_inversion.proofs.Joined.{asked_costs}
@@ -45,27 +38,9 @@ returns-in-Err-solve_at g c =
     stop_is value p asked c.args.limit c.requires.asked range stop
     (by_solve value p asked.column (rational (value asked.tau)) (rational (value asked.crit)) range c.args.limit bound.0 bound.1 stop (c.in-Err-solve_at.ensures {u = tt}).stopped)
 
-pub interval_from-requires-clause-asked : goal.interval_from-requires-clause-asked
-interval_from-requires-clause-asked g c κs within =
-    subst (IsAskable g.F.Exact.value c.args.problem.now) (sym (c.in-Ok-rank_test.ensures {u = tt}).tested.same) c.requires.asked
-
-pub interval_from-requires-clause-solved : goal.interval_from-requires-clause-solved
-interval_from-requires-clause-solved g c κs within =
-    subst (λ (a : Asked _). IsSolution g.F.Exact.value c.args.problem.now (rational (g.F.Exact.value a.tau)) c.in-Ok-solve_at.solved) (sym (c.in-Ok-rank_test.ensures {u = tt}).tested.same)
-    (c.in-Ok-solve_at.ensures {u = tt}).solution
-
-pub interval_from-requires-clause-tested : goal.interval_from-requires-clause-tested
-interval_from-requires-clause-tested g c κs within =
-    let tested = (c.in-Ok-rank_test.ensures {u = tt}).tested in
-    subst (λ (a : Asked _). IsTested g.F.Exact.value c.args.problem.now a c.in-Ok-rank_test.test) (sym tested.same) tested
-
 pub returns-in-Ok-interval_from : goal.returns-in-Ok-interval_from
 returns-in-Ok-interval_from g c =
-    let value = g.F.Exact.value in
-    let p = c.args.problem.now in
-    let interval = c.in-Ok-interval_from.interval in
-    right_is value p c.args.asked c.args.limit c.requires.asked interval
-    (subst (λ (a : Asked _). IsRankInterval value p a.column a.tau a.crit c.args.limit interval) (c.in-Ok-rank_test.ensures {u = tt}).tested.same (c.in-Ok-interval_from.ensures {u = tt}).interval)
+    right_is g.F.Exact.value c.args.problem.now c.args.asked c.args.limit c.requires.asked c.in-Ok-interval_from.interval (c.in-Ok-interval_from.ensures {u = tt}).interval
 
 pub returns-in-Err-interval_from : goal.returns-in-Err-interval_from
 returns-in-Err-interval_from g c =
@@ -75,6 +50,4 @@ returns-in-Err-interval_from g c =
     let asked = c.args.asked in
     let stop = c.in-Err-interval_from.stop in
     stop_is value p asked c.args.limit c.requires.asked range stop
-    (by_walks value p asked.column (rational (value asked.tau)) (rational (value asked.crit)) range c.args.limit stop
-    (subst (λ (a : Asked _). IsWalkStop value range p a.column (rational (value a.tau)) (rational (value a.crit)) c.args.limit stop) (c.in-Ok-rank_test.ensures {u = tt}).tested.same
-    (c.in-Err-interval_from.ensures {u = tt}).stopped))
+    (by_walks value p asked.column (rational (value asked.tau)) (rational (value asked.crit)) range c.args.limit stop (c.in-Err-interval_from.ensures {u = tt}).stopped)
