@@ -21,7 +21,7 @@ use Rattle.cert_sums.specs.declared.table.Table.{Table}
 use Rattle.cert_sums.specs.declared.reach.Reach.{Reach}
 use Rattle.cert_sums.specs.Tables.{IsTable}
 use Rattle.cert_sums.specs.Duals.{at_line}
-use Rattle.cert_sums.specs.Slopes.{IsReach}
+use Rattle.cert_sums.specs.Slopes.{IsScaled}
 use Rattle.cert_sums.specs.Within.{HasCosts, IsBetween, IsWithinCosts}
 use Rattle.cert_sums.proofs.RowsOf.{row_value}
 
@@ -32,7 +32,7 @@ line_room a b s t limit n h k room =
     let second = mul-le b t limit t k (omega arith) in
     omega (arith, first, second, room)
 
-module _ (p : Problem Frac128) (t : Table) (is_table : IsTable p t) (theta : ℚ) (i : ℕ) (w : WholeRow) (at_row : slice_get t.rows i ≡ Some w) (r : Reach) (reach : IsReach t.cost_limit theta r) where
+module _ (p : Problem Frac128) (t : Table) (is_table : IsTable p t) (theta : ℚ) (i : ℕ) (w : WholeRow) (at_row : slice_get t.rows i ≡ Some w) (r : Reach) (reach : IsScaled theta r) where
   abbrev Both : ℚ → ℚ
   Both x = (whole (pos r.scale) *ℚ whole (pos t.cost_scale)) *ℚ x
 

@@ -30,7 +30,7 @@ use Rattle.cert_sums.specs.declared.reach.Reach.{Reach}
 use Rattle.cert_sums.specs.Tables.{IsTable}
 use Rattle.cert_sums.specs.Duals.{at_line, side_in, dual_of}
 use Rattle.cert_sums.specs.Sums.{cell_at}
-use Rattle.cert_sums.specs.Slopes.{part_of, line_on, part_at, is_settled, unsettled_rows, basic_part, basic_at, over_scales, listed_total, sum_at, IsTally, IsReach, IsSummed}
+use Rattle.cert_sums.specs.Slopes.{part_of, line_on, part_at, is_settled, unsettled_rows, basic_part, basic_at, over_scales, listed_total, sum_at, IsTally, IsScaled, IsSummed}
 use Rattle.cert_sums.specs.Ends.{low_dual, high_dual, DoMeet}
 use Rattle.cert_sums.proofs.RowsOf.{row_value}
 use Rattle.cert_sums.proofs.Balanced.{balanced_from, objective_from}
@@ -41,7 +41,7 @@ line_split l scale at =
     whole-add (l.start *ℤ pos scale) (l.slope *ℤ at) ∙ ap₂ ◌+ℚ◌ (whole-mul l.start (pos scale)) (whole-mul l.slope at)
     ∙ ring_ℚ (whole l.start ∷ whole (pos scale) ∷ whole l.slope ∷ whole at ∷ []) (v0 ⊠ v1 ⊞ v2 ⊠ v3) ((v1 ⊠ v0 ⊞ v3 ⊠ v2) ⊞ number (pos 0)) refl
 
-module _ (p : Problem Frac128) (t : Table) (h : IsTable p t) (theta : ℚ) (v : Vertex) (basic : List Fraction) (r : Reach) (k : IsReach t.cost_limit theta r) where
+module _ (p : Problem Frac128) (t : Table) (h : IsTable p t) (theta : ℚ) (v : Vertex) (basic : List Fraction) (r : Reach) (k : IsScaled theta r) where
   abbrev V : ℚ
   V = whole (pos r.scale)
 

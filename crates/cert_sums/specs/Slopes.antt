@@ -112,7 +112,12 @@ pub record IsSummed (p : Problem Frac128) (e : ℕ → ℚ) (stated : ℚ) : Typ
   pub balanced : IsBalanced (sample value128 p) e
   pub objective : stated ≡ dual_objective (sample value128 p) e
 
--- a quantile times the scale, where numbers up to a limit have room
+-- a quantile times the scale
+pub record IsScaled (theta : ℚ) (r : Reach) : Type 0 where
+  pub some : 1 ≤ r.scale
+  pub at_theta : whole r.at ≡ whole (pos r.scale) *ℚ theta
+
+-- the same, where numbers up to a limit have room
 pub record IsReach (limit : ℕ) (theta : ℚ) (r : Reach) : Type 0 where
   pub some : 1 ≤ r.scale
   pub small : r.scale < 2 ^ 127

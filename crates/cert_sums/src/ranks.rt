@@ -38,7 +38,7 @@ fn statistic_at(
     ensures held { IfSome result (λ _. IsHeldWithout (sample value128 whole.entry.problem.now) column (rational end.entry.theta.now) (side_in end.entry.vertex.now) (dual_of (sample value128 whole.entry.problem.now) (rational end.entry.theta.now) end.entry.vertex.now end.entry.basic.now)) }
     ensures value { IfSome result (λ z. rational (value128 z) ≡ column_sum (sample value128 whole.entry.problem.now) (dual_of (sample value128 whole.entry.problem.now) (rational end.entry.theta.now) end.entry.vertex.now end.entry.basic.now) column) }
 {
-    if !bounds_hold(whole, end.theta, end.vertex, end.basic) {
+    if !bounds_hold(alloc, whole, end.theta, end.vertex, end.basic) {
         return None;
     }
     let duals = duals_of(alloc, whole.problem, whole.table, end)?;

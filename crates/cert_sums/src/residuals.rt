@@ -11,6 +11,7 @@ ghost use Rattle.cert_sums.specs.Tables.{IsTable};
 ghost use Rattle.cert_sums.specs.Duals.{side_in};
 ghost use Rattle.cert_sums.specs.Residuals.{IsWholeOn, AreMultipliers, RowsFollow};
 
+use crate::long_rows::long_follow_sides;
 use crate::products::{has_room, narrow_row_product, narrowed};
 use crate::scale::{answer_scaled, common_scale};
 use crate::table::Table;
@@ -73,6 +74,22 @@ fn is_on(side: Side, number: i128) -> bool
 
 /// Whether each residual lies on the side of its row.
 pub(crate) fn follow_sides(
+    alloc: Global,
+    problem: &Problem<Frac128>,
+    table: &Table,
+    vertex: &Vertex,
+) -> bool
+    requires { IsTable problem.now table.now }
+    ensures { IsTrue result → (i : ℕ) → i < length problem.now.rows → IsOn (side_in vertex.now i) (residual (sample value128 problem.now) (number_at vertex.now.coef) i) }
+{
+    if narrow_follow_sides(alloc, problem, table, vertex) {
+        return true;
+    }
+    long_follow_sides(alloc, problem, table, vertex)
+}
+
+// The same, by numbers of 127 bits.
+fn narrow_follow_sides(
     alloc: Global,
     problem: &Problem<Frac128>,
     table: &Table,

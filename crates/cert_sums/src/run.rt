@@ -6,16 +6,18 @@ ghost use Rattle.loss_model.specs.declared.process.Segment.{Segment as Piece};
 ghost use Rattle.frac_core.specs.Values.{value as value128};
 ghost use Rattle.cert_sums.specs.Tables.{IsTable};
 ghost use Rattle.cert_sums.specs.Ends.{low_dual, high_dual, DoMeet, IsBegun, IsEnded, IsHeldAt};
-ghost use Rattle.cert_sums.specs.Slopes.{IsTally, IsReach, IsCounted};
+ghost use Rattle.cert_sums.specs.Slopes.{end_dual, IsTally, IsCounted, IsSummed};
 
 use crate::duals::End;
 use crate::ends::WholeProblem;
-use crate::reach::{Reach, reach_of};
+use crate::long_sums::{long_meet, long_summed};
+use crate::reach::reach_of;
 use crate::residuals::follow_sides;
 use crate::scale::is_same;
-use crate::segment_sums::{all_share, is_summed};
+use crate::segment_sums::{is_summed, narrow_meet};
 use crate::slopes::{Tally, tally_of, turned, unsettled_rows};
 use loss_model::Segment;
+use ratio::Ratio;
 use std::alloc::Global;
 
 // How many cells a row has.
@@ -23,6 +25,50 @@ fn width(whole: WholeProblem<'_>) -> usize
     ensures { result ≡ whole.entry.problem.now.columns + 1 }
 {
     whole.problem.columns as usize + 1
+}
+
+// Whether the sums of a tally are those of dual values that balance and come to what is stated.
+fn is_summed_at(
+    alloc: Global,
+    whole: WholeProblem<'_>,
+    tally: &Tally,
+    end: End<'_>,
+    stated: &Ratio,
+) -> bool
+    requires table { IsTable whole.problem.now whole.table.now }
+    requires tally { IsTally whole.table.now.rows (whole.problem.now.columns + 1) end.vertex.now.sides tally.now }
+    ensures { IsTrue result → IsSummed whole.entry.problem.now (end_dual whole.entry.problem.now end.entry.theta.now end.entry.vertex.now end.entry.basic.now) (rational stated.now) }
+{
+    if narrow_summed(alloc, whole, tally, end, stated) {
+        return true;
+    }
+    long_summed(alloc, whole.problem, whole.table, tally, end, stated)
+}
+
+// The same, by numbers of 127 bits.
+fn narrow_summed(
+    alloc: Global,
+    whole: WholeProblem<'_>,
+    tally: &Tally,
+    end: End<'_>,
+    stated: &Ratio,
+) -> bool
+    requires table { IsTable whole.problem.now whole.table.now }
+    requires tally { IsTally whole.table.now.rows (whole.problem.now.columns + 1) end.vertex.now.sides tally.now }
+    ensures { IsTrue result → IsSummed whole.entry.problem.now (end_dual whole.entry.problem.now end.entry.theta.now end.entry.vertex.now end.entry.basic.now) (rational stated.now) }
+{
+    match reach_of(whole.table, end) {
+        Some(reach) => is_summed(
+            alloc,
+            whole.problem,
+            whole.table,
+            tally,
+            end,
+            &reach,
+            stated,
+        ),
+        None => false,
+    }
 }
 
 // What the sums of a segment come to at its low end: whether the dual values balance, and come to the loss stated there.
@@ -36,57 +82,32 @@ fn begins(alloc: Global, whole: WholeProblem<'_>, segment: &Segment, tally: &Tal
         vertex: &segment.vertex,
         basic: &segment.basic_lo,
     };
-    match reach_of(whole.table, end) {
-        Some(reach) => is_summed(
-            alloc,
-            whole.problem,
-            whole.table,
-            tally,
-            end,
-            &reach,
-            &segment.loss_lo,
-        ),
-        None => false,
-    }
+    is_summed_at(alloc, whole, tally, end, &segment.loss_lo)
 }
 
-// The quantile at its high end, where they balance and come to the loss stated there.
-fn ended(alloc: Global, whole: WholeProblem<'_>, segment: &Segment, tally: &Tally) -> Option<Reach>
+// The same at its high end.
+fn ends(alloc: Global, whole: WholeProblem<'_>, segment: &Segment, tally: &Tally) -> bool
     requires table { IsTable whole.problem.now whole.table.now }
     requires tally { IsTally whole.table.now.rows (whole.problem.now.columns + 1) segment.now.vertex.sides tally.now }
-    ensures reach { IfSome result (IsReach whole.entry.table.now.cost_limit (rational segment.now.hi)) }
-    ensures ended { IfSome result (λ _. IsEnded whole.entry.problem.now segment.now) }
+    ensures { IsTrue result → IsEnded whole.entry.problem.now segment.now }
 {
     let end = End {
         theta: &segment.hi,
         vertex: &segment.vertex,
         basic: &segment.basic_hi,
     };
-    let reach = reach_of(whole.table, end)?;
-    if !is_summed(
-        alloc,
-        whole.problem,
-        whole.table,
-        tally,
-        end,
-        &reach,
-        &segment.loss_hi,
-    ) {
-        return None;
-    }
-    Some(reach)
+    is_summed_at(alloc, whole, tally, end, &segment.loss_hi)
 }
 
 // Whether each row of a list has the same dual value at the high end of a segment and at the low end of the next one.
 fn meet_in(
+    alloc: Global,
     whole: WholeProblem<'_>,
     list: &[usize],
     segment: &Segment,
-    reach: &Reach,
     next: &Segment,
 ) -> bool
     requires table { IsTable whole.problem.now whole.table.now }
-    requires reach { IsReach whole.table.now.cost_limit (rational segment.now.hi) reach.now }
     requires same { rational segment.now.hi ≡ rational next.now.lo }
     ensures { IsTrue result → All (λ i. high_dual whole.entry.problem.now segment.now i ≡ low_dual whole.entry.problem.now next.now i) list.now }
 {
@@ -100,7 +121,10 @@ fn meet_in(
         vertex: &next.vertex,
         basic: &next.basic_lo,
     };
-    all_share(whole.problem, whole.table, list, left, right, reach)
+    if narrow_meet(whole.problem, whole.table, list, left, right) {
+        return true;
+    }
+    long_meet(alloc, whole.problem, whole.table, list, left, right)
 }
 
 // The tally of the next segment, where it begins with the dual values and the loss with which a segment ends.
@@ -109,12 +133,10 @@ fn goes_on(
     whole: WholeProblem<'_>,
     segment: &Segment,
     tally: &Tally,
-    reach: &Reach,
     next: &Segment,
 ) -> Option<Tally>
     requires table { IsTable whole.problem.now whole.table.now }
     requires tally { IsTally whole.table.now.rows (whole.problem.now.columns + 1) segment.now.vertex.sides tally.now }
-    requires reach { IsReach whole.table.now.cost_limit (rational segment.now.hi) reach.now }
     ensures meets { IfSome result (λ _. DoMeet whole.entry.problem.now segment.now next.now) }
     ensures loss { IfSome result (λ _. rational segment.now.loss_hi ≡ rational next.now.loss_lo) }
     ensures tally { IfSome result (IsTally whole.entry.table.now.rows (whole.entry.problem.now.columns + 1) next.now.vertex.sides) }
@@ -129,7 +151,7 @@ fn goes_on(
     let old = segment.vertex.sides.as_slice();
     let new = next.vertex.sides.as_slice();
     let unsettled = unsettled_rows(alloc, old, new, rows.len())?;
-    if !meet_in(whole, unsettled.as_slice(), segment, reach, next) {
+    if !meet_in(alloc, whole, unsettled.as_slice(), segment, next) {
         return None;
     }
     let made = turned(alloc, rows, width(whole), tally, old, new, unsettled)?;
@@ -155,12 +177,14 @@ fn holds_at(
     if !follow_sides(alloc, whole.problem, whole.table, &segment.vertex) {
         return None;
     }
-    let reach = ended(alloc, whole, segment, &tally)?;
+    if !ends(alloc, whole, segment, &tally) {
+        return None;
+    }
     let after = place + 1;
     if after >= segments.len() {
         return Some(tally);
     }
-    let made = goes_on(alloc, whole, segment, &tally, &reach, &segments[after])?;
+    let made = goes_on(alloc, whole, segment, &tally, &segments[after])?;
     Some(made)
 }
 

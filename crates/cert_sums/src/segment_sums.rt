@@ -8,7 +8,7 @@ ghost use Rattle.cert_sums.specs.Tables.{IsTable};
 ghost use Rattle.cert_sums.specs.Slopes.{basic_at, end_dual, over_scales, sum_at, IsTally, IsReach, IsSummed};
 
 use crate::duals::{End, basic_dual, row_dual};
-use crate::reach::Reach;
+use crate::reach::{Reach, reach_of};
 use crate::scale::{is_number, product};
 use crate::slopes::{Tally, number_at, with_rows};
 use crate::table::{Table, WholeRow};
@@ -202,8 +202,8 @@ fn shares(
     }
 }
 
-/// Whether all rows of a list do.
-pub(crate) fn all_share(
+// Whether all rows of a list do.
+fn all_share(
     problem: &Problem<Frac128>,
     table: &Table,
     list: &[usize],
@@ -222,4 +222,22 @@ pub(crate) fn all_share(
         }
     }
     true
+}
+
+/// Whether all rows of a list have the same dual value at two ends of one quantile.
+pub(crate) fn narrow_meet(
+    problem: &Problem<Frac128>,
+    table: &Table,
+    list: &[usize],
+    left: End<'_>,
+    right: End<'_>,
+) -> bool
+    requires table { IsTable problem.now table.now }
+    requires same { rational left.theta.now ≡ rational right.theta.now }
+    ensures { IsTrue result → All (λ i. end_dual problem.now left.entry.theta.now left.entry.vertex.now left.entry.basic.now i ≡ end_dual problem.now right.entry.theta.now right.entry.vertex.now right.entry.basic.now i) list.now }
+{
+    match reach_of(table, left) {
+        Some(reach) => all_share(problem, table, list, left, right, &reach),
+        None => false,
+    }
 }

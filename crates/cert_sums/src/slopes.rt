@@ -100,8 +100,8 @@ pub(crate) fn unsettled_rows(
     Some(made)
 }
 
-// The cell of a row at a place, where there is one.
-fn cell(rows: &[WholeRow], row: usize, place: usize) -> Option<i64>
+/// The cell of a row at a place, where there is one.
+pub(crate) fn cell(rows: &[WholeRow], row: usize, place: usize) -> Option<i64>
     ensures { IfSome result (λ x. whole x ≡ cell_at rows.now place row) }
 {
     if row >= rows.len() {

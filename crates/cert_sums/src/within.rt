@@ -13,12 +13,14 @@ ghost use Rattle.cert_sums.specs.Within.{HasCosts, IsBetween, IsWithinCosts};
 
 use crate::duals::{End, basic_dual, has_reach, line_at};
 use crate::ends::WholeProblem;
+use crate::long_rows::long_bounds_hold;
 use crate::reach::{Reach, reach_of};
 use crate::table::{Table, WholeRow};
 use crate::vertices::side;
 use frac_core::{Exact, Frac128, List};
 use loss_model::{Side, Vertex};
 use ratio::Ratio;
+use std::alloc::Global;
 
 // Whether a number is between both bounds of a row at a quantile, all of them times the scale.
 fn is_between(row: &WholeRow, value: i128, scale: u128, at: i128, limit: u64) -> bool
@@ -69,6 +71,7 @@ fn rows_within(whole: WholeProblem<'_>, end: End<'_>, reach: &Reach) -> bool
 
 /// Whether the dual values of the basic rows of a vertex at a quantile are within the costs of these.
 pub fn bounds_hold(
+    alloc: Global,
     whole: WholeProblem<'_>,
     theta: &Ratio,
     vertex: &Vertex,
@@ -83,6 +86,18 @@ pub fn bounds_hold(
         vertex,
         basic,
     };
+    if narrow_bounds_hold(whole, end) {
+        return true;
+    }
+    long_bounds_hold(alloc, whole, end)
+}
+
+// The same, by numbers of 127 bits.
+fn narrow_bounds_hold(whole: WholeProblem<'_>, end: End<'_>) -> bool
+    requires { IsTable whole.problem.now whole.table.now }
+    ensures { IsTrue result → (i : ℕ) → i < length whole.entry.problem.now.rows
+        → IsWithinCosts (sample value128 whole.entry.problem.now) (rational end.entry.theta.now) (side_in end.entry.vertex.now i) (basic_value end.entry.vertex.now end.entry.basic.now i) i }
+{
     match reach_of(whole.table, end) {
         Some(reach) => rows_within(whole, end, &reach),
         None => false,

@@ -23,7 +23,7 @@ loop-i-preserved c =
     let here : slice_get t.rows i ≡ Some w = rw (← c.as_slice-rows.ensures) read in
     let plain : to_z w128 (of_z w128 r.at) ≡ r.at = search rules in
     below_more (HasCosts (sample value128 p) theta) i c.loop-i.invariant
-    (has_costs p t c.requires.table theta i w here r c.requires.reach (rw (plain) at (c.is_between.ensures c.if-not-is_between.false)))
+    (has_costs p t c.requires.table theta i w here r (record { some = c.requires.reach.some; at_theta = c.requires.reach.at_theta }) (rw (plain) at (c.is_between.ensures c.if-not-is_between.false)))
 
 pub returns : goal.returns
 returns c =

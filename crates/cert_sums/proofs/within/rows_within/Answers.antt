@@ -25,7 +25,7 @@ loop-i-preserved c =
     let read : slice_get rows i ≡ Some w = slice_get_read rows (length rows) i w refl c.loop-i-test.true c.index-rows-i.is in
     let here : slice_get t.rows i ≡ Some w = rw (← c.as_slice-rows.ensures) read in
     below_more (λ i. IsWithinCosts (sample value128 p) theta (side_in v i) (basic i) i) i c.loop-i.invariant
-    (within_costs p t c.requires.table theta i w here r c.requires.reach (side_in v i) (basic i) (c.row_within.ensures c.if-not-row_within.false))
+    (within_costs p t c.requires.table theta i w here r (record { some = c.requires.reach.some; at_theta = c.requires.reach.at_theta }) (side_in v i) (basic i) (c.row_within.ensures c.if-not-row_within.false))
 
 pub returns : goal.returns
 returns c =
