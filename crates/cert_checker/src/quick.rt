@@ -65,6 +65,7 @@ impl Quick<'_> {
     {
         match self.table {
             Some(table) => bounds_hold(
+                self.alloc,
                 WholeProblem {
                     problem: self.problem,
                     table,
