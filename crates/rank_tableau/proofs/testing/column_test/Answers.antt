@@ -1,4 +1,4 @@
-use Rattle.std.proofs.Common.{rules, ◌≡◌, List, ℕ, ◌<◌, length, pos, sym, subst, ap, ◌∙◌, ℤ}
+use Rattle.std.proofs.Common.{rules, ◌≡◌, List, ℕ, ◌<◌, length, pos, sym, subst, ◌∙◌, ℤ}
 use Rattle.rational_laws.specs.Fraction.{rational}
 use Rattle.rational_laws.proofs.Signs.{positive_nonzero}
 use Rattle.loss_model.specs.Problem.{number_at}
@@ -11,9 +11,9 @@ use Rattle.rank_tableau.proofs.ColumnTests.{test_is}
 use Rattle.rank_tableau.proofs.testing.column_test.Goals as goal
 
 pub factor_values-requires : goal.factor_values-requires
-factor_values-requires g c κs within =
+factor_values-requires g c =
     let scales : c.as_slice-scales.result.now ≡ c.args.tableau.now.setting.wholes.factors = search rules in
-    rw (scales) (c.requires.kept.setting.factors c.args.column c.requires.column)
+    record { some = rw (scales) (c.requires.kept.setting.factors c.args.column c.requires.column) }
 
 pub returns : goal.returns
 returns g c =
