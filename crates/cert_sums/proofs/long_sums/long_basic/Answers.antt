@@ -1,5 +1,5 @@
 -- The number times the scale of the costs.
-use Rattle.std.proofs.Common.{rules, List, ℕ, ◌≡◌, ◌==◌, ◌*ℤ◌, pos, ap, ap₂, ◌∙◌}
+use Rattle.std.proofs.Common.{List, ℕ, ◌≡◌, ◌==◌, ◌*ℤ◌, pos, ap, ap₂, ◌∙◌}
 use Rattle.std.specs.List.{position_or_len}
 use Rattle.rational_laws.specs.Rational.{◌*ℚ◌, whole}
 use Rattle.loss_model.specs.Problem.{number_at}

@@ -1,7 +1,6 @@
 -- The cross products are equal.
-use Rattle.std.proofs.Common.{rules, ◌≡◌, ◌*◌, ◌*ℤ◌, pos, subst, sym, ap, ap₂, ◌∙◌}
+use Rattle.std.proofs.Common.{◌*◌, ◌*ℤ◌, pos, subst, sym, ap, ap₂, ◌∙◌}
 use Rattle.std.specs.Prelude.{IsTrue}
-use Rattle.rational_laws.specs.Rational.{◌*ℚ◌, whole, inverse}
 use Rattle.rational_laws.proofs.Signs.{some_product}
 use Rattle.cert_sums.proofs.Orders.{equal_whole}
 use Rattle.cert_sums.proofs.Scales.{same_quotient}

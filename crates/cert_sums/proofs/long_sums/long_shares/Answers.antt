@@ -1,5 +1,5 @@
 -- Equal numbers times the same scales.
-use Rattle.std.proofs.Common.{◌≡◌, pos, subst, sym, ap, ◌∙◌}
+use Rattle.std.proofs.Common.{pos, subst, sym, ap, ◌∙◌}
 use Rattle.std.specs.Prelude.{IsTrue}
 use Rattle.rational_laws.specs.Rational.{◌*ℚ◌, whole}
 use Rattle.rational_laws.proofs.Inverses.{*ℚ_cancel}

@@ -4,7 +4,6 @@ use Rattle.std.specs.Prelude.{Option, slice_get, Some}
 use Rattle.std.specs.Option.{option_map_or}
 use Rattle.std.proofs.lemmas.Option.{slice_get-get_or}
 use Rattle.rational_laws.specs.Rational.{◌+ℚ◌, ◌*ℚ◌, whole}
-use Rattle.rational_laws.specs.RationalSums.{sum_ℚ}
 use Rattle.rational_laws.specs.WholeLists.{whole_at}
 use Rattle.rational_laws.proofs.Signs.{plus-zero}
 use Rattle.cert_sums.specs.Sums.{cell_at}

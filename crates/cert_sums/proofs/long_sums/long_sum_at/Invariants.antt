@@ -1,4 +1,4 @@
-use Rattle.std.specs.Prelude.{◌≡◌, ℕ, get_or, pos}
+use Rattle.std.specs.Prelude.{◌≡◌, get_or, pos}
 use Rattle.rational_laws.specs.Rational.{◌+ℚ◌, ◌*ℚ◌, whole}
 use Rattle.rational_laws.specs.RationalSums.{sum_ℚ}
 use Rattle.rational_laws.specs.WholeLists.{whole_at}

@@ -1,7 +1,6 @@
 -- All before hold, and the one that stands next begins as it should.
 use Rattle.std.proofs.Common.{◌≡◌, ℕ, ◌<◌, ◌≤◌}
 use Rattle.std.specs.Prelude.{slice_get, Some}
-use Rattle.frac_core.specs.declared.frac128.Frac128.{Frac128}
 use Rattle.loss_model.specs.declared.process.Segment.{Segment}
 use Rattle.cert_sums.specs.Ends.{IsHeldAt}
 use Rattle.cert_sums.specs.Slopes.{IsCounted}

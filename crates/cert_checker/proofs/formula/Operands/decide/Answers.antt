@@ -1,5 +1,5 @@
 -- The relation of both values is that of the formulas.
-use Rattle.std.proofs.Common.{refl, ap}
+use Rattle.std.proofs.Common.{refl}
 use Rattle.cert_checker.specs.declared.verdict.Rejection.{Rejection}
 use Rattle.cert_checker.proofs.Compared.{compared, refused}
 use Rattle.cert_checker.proofs.formula.Operands.decide.Goals as goal
