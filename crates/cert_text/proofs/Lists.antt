@@ -117,7 +117,3 @@ last_of [] = refl
 last_of (x ∷ xs) =
     let e : suc (length xs) - 1 ≡ length xs = omega arith in
     ap (slice_get (x ∷ xs)) e ∙ last_behind x xs
-
-pub last_shown : {T A : Type 0} (show : T → A) (o : Option T) (xs : List T) → last_or (option_map show o) (map show xs) ≡ option_map show (last_or o xs)
-last_shown show o [] = refl
-last_shown show o (x ∷ xs) = last_shown show (Some x) xs

@@ -1,15 +1,12 @@
 -- Lists that are gone through item by item: whether all pass a test, and what is known of each.
 use Rattle.std.proofs.Common.{◌≡◌, ℕ, ◌+◌, ◌<◌, ◌≤◌, ◌&&◌, All, Bool, true, false, List, [], ◌∷◌, None, arith, length, drop, take, get_or, refl, sym, ap, subst, ◌∙◌}
+use Rattle.std.proofs.Math.Bool.{and_assoc}
 use Rattle.std.proofs.lemmas.List.{drop_all, drop_more}
 use Rattle.std.proofs.lemmas.List.Elements.{All-push}
 use Rattle.serde_json.specs.View.{items_view}
 use Rattle.serde_json.specs.declared.value.Value.{Value}
 use Rattle.cert_text.specs.Certificates.{second_of}
 use Rattle.cert_text.proofs.Lists.{all_taken, first_items}
-
-regroup : (a b c : Bool) → (a && (b && c)) ≡ ((a && b) && c)
-regroup true b c = refl
-regroup false b c = refl
 
 with_true : (a : Bool) → (a && true) ≡ a
 with_true true = refl
@@ -25,7 +22,7 @@ module _ {T : Type 0} (P : T → Type 0) (test : T → Bool) (are : List T → B
   walked_more xs i x all here after lt at before is holds joined =
       let rest = are (drop (i + 1) xs) in (
         before.0 ∙ ap (λ l. all && are l) (drop_more xs i x lt ∙ ap (λ y. y ∷ drop (i + 1) xs) (sym at)) ∙ ap (λ b. all && b) (more x (drop (i + 1) xs))
-            ∙ ap (λ b. all && (b && rest)) (sym is) ∙ regroup all here rest ∙ ap (λ b. b && rest) (sym joined),
+            ∙ ap (λ b. all && (b && rest)) (sym is) ∙ sym (and_assoc all here rest) ∙ ap (λ b. b && rest) (sym joined),
         subst (All P) (sym (first_items xs i x lt at)) (All-push P (take i xs) x before.1 holds),
       )
 

@@ -3,7 +3,6 @@ use Rattle.std.specs.Prelude.{◌≡◌, ℕ, Bool, true, false, List, All, Opti
 use Rattle.rational_laws.specs.Fraction.{Fraction, rational}
 use Rattle.rational_laws.specs.Rational.{ℚ}
 use Rattle.frac_core.specs.declared.frac128.Frac128.{Frac128}
-use Rattle.frac_core.specs.Values.{value}
 use Rattle.loss_model.specs.declared.problem.Problem.{Problem}
 use Rattle.loss_model.specs.declared.process.Segment.{Segment}
 use Rattle.nested_test.specs.Restricted.{restricted_problem}
