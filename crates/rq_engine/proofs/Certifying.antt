@@ -102,10 +102,10 @@ stated_more [] r x left e = ap (λ o. o ∷ map statement left) e
 stated_more (m ∷ made) r x left e = ap (λ l. Some m ∷ l) (stated_more made r x left e)
 
 -- what is stated of intervals keeps what they keep
-pub proofs_kept : (intervals : List (Intervalrac128)) (proofs : List (IntervalProofrac128)) → map Some proofs ≡ map statement intervals → All IsKept intervals → All IsKeptInterval proofs
+pub proofs_kept : (intervals : List Interval) (proofs : List IntervalProof) → map Some proofs ≡ map statement intervals → All IsKept intervals → All IsKeptInterval proofs
 proofs_kept intervals proofs e h = by intervals proofs (stated_each intervals proofs e) h
   where
-    by : (rs : List (Intervalrac128)) (xs : List (IntervalProofrac128))
+    by : (rs : List Interval) (xs : List IntervalProof)
         → AllZip (λ r x. (factors : List Fraction) × (r.projection ≡ Some factors) × (x ≡ stated r factors)) rs xs → All IsKept rs → All IsKeptInterval xs
     by [] [] is h = All-nil IsKeptInterval
     by [] (x ∷ xs) is h = absurd is
