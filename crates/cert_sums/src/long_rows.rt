@@ -71,13 +71,13 @@ fn long_multipliers(alloc: Global, coef: &[Ratio]) -> Option<LongMultipliers>
 }
 
 // The sum of the products of two lists.
-fn long_row_product(alloc: Global, row: &[i64], column: &[Integer]) -> Option<Integer>
+fn long_row_product(alloc: Global, row: &[i128], column: &[Integer]) -> Option<Integer>
     requires { length row.now ≡ length column.now }
     ensures { IfSome result (λ r. r ≡ total row.now column.now) }
 {
     let mut sum = Integer::zero(alloc);
     for i in 0..row.len() {
-        sum = long_grown(alloc, &sum, row[i] as i128, &column[i])?;
+        sum = long_grown(alloc, &sum, row[i], &column[i])?;
     }
     Some(sum)
 }
@@ -104,7 +104,7 @@ fn is_long_on(side: Side, number: &Integer) -> bool
 }
 
 // Whether the cells of a row times these numbers lie on the side of the row.
-fn long_row_follows(alloc: Global, cells: &[i64], numbers: &[Integer], side: Side) -> bool
+fn long_row_follows(alloc: Global, cells: &[i128], numbers: &[Integer], side: Side) -> bool
     requires { length cells.now ≡ length numbers.now }
     ensures { IsTrue result → IsWholeOn side (total cells.now numbers.now) }
 {

@@ -131,7 +131,7 @@ fn long_with_row(
     ensures { IfSome result (λ r. whole r ≡ whole sum.now +ℚ (cell_at rows.now place row *ℚ whole value.now)) }
 {
     let x = cell(rows, row, place)?;
-    let made = long_grown(alloc, sum, x as i128, value)?;
+    let made = long_grown(alloc, sum, x, value)?;
     Some(made)
 }
 

@@ -11,7 +11,7 @@ ghost use Rattle.loss_model.specs.Problem.{number_at, sample};
 ghost use Rattle.rank_model.specs.Restricted.{projected, IsProjection, squared_length};
 ghost use Rattle.wide_int.specs.Numbers.{sizes};
 ghost use Rattle.rational_laws.specs.WholeLists.{whole_at};
-ghost use Rattle.cert_sums.specs.Tables.{IsTable};
+ghost use Rattle.cert_sums.specs.Tables.{AreNarrow, IsTable};
 ghost use Rattle.cert_sums.specs.Duals.{IsDuals};
 ghost use Rattle.cert_sums.specs.Ranks.{left_at, IsPositive};
 
@@ -70,8 +70,9 @@ fn weighted(left: i128, weight: i64) -> Option<i128>
 
 // What the numbers leave of each row, times the square of its weight.
 fn left_values(alloc: Global, table: &Table, numbers: &[i128]) -> Option<List<i128>>
-    requires same { All (λ w. length w.cells ≡ length numbers.now) table.now.rows }
-    requires small { All (λ w. All (λ e. unsigned_abs e ≤ table.now.limit) w.cells) table.now.rows }
+    requires same { All (λ w. length w.narrow ≡ length numbers.now) table.now.rows }
+    requires small { All (λ w. All (λ e. unsigned_abs e ≤ table.now.limit) w.narrow) table.now.rows }
+    requires narrow { AreNarrow table.now.rows }
     requires bound { table.now.limit * sizes numbers.now < 2 ^ 127 }
     ensures size { IfSome result (λ made. length made ≡ length table.now.rows) }
     ensures each { IfSome result (λ made. (i : ℕ) → i < length table.now.rows → whole_at made i ≡ left_at table.now.rows numbers.now i) }
@@ -80,7 +81,7 @@ fn left_values(alloc: Global, table: &Table, numbers: &[i128]) -> Option<List<i1
     let mut made = List::new(alloc);
     for i in 0..rows.len() {
         let row = &rows[i];
-        let left = row_product(row.cells.as_slice(), numbers, table.limit);
+        let left = row_product(row.narrow.as_slice(), numbers, table.limit);
         let value = weighted(left, row.up.slope)?;
         if made.push(value).is_err() {
             return None;
@@ -107,6 +108,9 @@ fn left_of(
     requires { IsTable problem.now table.now }
     ensures { IfSome result (IsDuals problem.now table.now (λ i. (sample value128 problem.now).up1 i *ℚ projected (sample value128 problem.now) interval.now.column (number_at interval.now.projection) i)) }
 {
+    if !table.is_narrow {
+        return None;
+    }
     let factors = interval.projection.as_slice();
     let column = interval.column as usize;
     if factors.len() != problem.columns as usize {

@@ -9,7 +9,7 @@ ghost use Rattle.wide_int.specs.Numbers.{sizes};
 ghost use Rattle.rational_laws.specs.WholeLists.{whole_at};
 ghost use Rattle.cert_sums.specs.Tables.{IsTable};
 ghost use Rattle.cert_sums.specs.Duals.{side_in};
-ghost use Rattle.cert_sums.specs.Residuals.{IsWholeOn, AreMultipliers, RowsFollow};
+ghost use Rattle.cert_sums.specs.Residuals.{IsWholeOn, AreMultipliers, NarrowRowsFollow};
 
 use crate::long_rows::long_follow_sides;
 use crate::products::{has_room, narrow_row_product, narrowed};
@@ -98,6 +98,9 @@ fn narrow_follow_sides(
     requires { IsTable problem.now table.now }
     ensures { IsTrue result → (i : ℕ) → i < length problem.now.rows → IsOn (side_in vertex.now i) (residual (sample value128 problem.now) (number_at vertex.now.coef) i) }
 {
+    if !table.is_narrow {
+        return false;
+    }
     let coef = vertex.coef.as_slice();
     if coef.len() != problem.columns as usize {
         return false;
@@ -116,10 +119,10 @@ fn narrow_follow_sides(
 
 // Whether the sums of the cells of each row times these numbers lie on the side of the row.
 fn all_follow(alloc: Global, table: &Table, numbers: &[i128], vertex: &Vertex) -> bool
-    requires same { All (λ w. length w.cells ≡ length numbers.now) table.now.rows }
-    requires small { All (λ w. All (λ e. unsigned_abs e ≤ table.now.limit) w.cells) table.now.rows }
+    requires same { All (λ w. length w.narrow ≡ length numbers.now) table.now.rows }
+    requires small { All (λ w. All (λ e. unsigned_abs e ≤ table.now.limit) w.narrow) table.now.rows }
     requires bound { table.now.limit * sizes numbers.now < 2 ^ 127 }
-    ensures { IsTrue result → RowsFollow table.now.rows numbers.now vertex.now }
+    ensures { IsTrue result → NarrowRowsFollow table.now.rows numbers.now vertex.now }
 {
     match narrowed(alloc, numbers) {
         Some(narrow) => narrow_rows_follow(table, narrow.as_slice(), vertex),
@@ -129,14 +132,14 @@ fn all_follow(alloc: Global, table: &Table, numbers: &[i128], vertex: &Vertex) -
 
 // The same, of numbers of any width.
 fn rows_follow(table: &Table, numbers: &[i128], vertex: &Vertex) -> bool
-    requires same { All (λ w. length w.cells ≡ length numbers.now) table.now.rows }
-    requires small { All (λ w. All (λ e. unsigned_abs e ≤ table.now.limit) w.cells) table.now.rows }
+    requires same { All (λ w. length w.narrow ≡ length numbers.now) table.now.rows }
+    requires small { All (λ w. All (λ e. unsigned_abs e ≤ table.now.limit) w.narrow) table.now.rows }
     requires bound { table.now.limit * sizes numbers.now < 2 ^ 127 }
-    ensures { IsTrue result → RowsFollow table.now.rows numbers.now vertex.now }
+    ensures { IsTrue result → NarrowRowsFollow table.now.rows numbers.now vertex.now }
 {
     let rows = table.rows.as_slice();
     for i in 0..rows.len() {
-        let number = row_product(rows[i].cells.as_slice(), numbers, table.limit);
+        let number = row_product(rows[i].narrow.as_slice(), numbers, table.limit);
         if !is_on(side(vertex, i), number) {
             return false;
         }
@@ -146,14 +149,14 @@ fn rows_follow(table: &Table, numbers: &[i128], vertex: &Vertex) -> bool
 
 // The same, of numbers of 64 bits.
 fn narrow_rows_follow(table: &Table, numbers: &[i64], vertex: &Vertex) -> bool
-    requires same { All (λ w. length w.cells ≡ length numbers.now) table.now.rows }
-    requires small { All (λ w. All (λ e. unsigned_abs e ≤ table.now.limit) w.cells) table.now.rows }
+    requires same { All (λ w. length w.narrow ≡ length numbers.now) table.now.rows }
+    requires small { All (λ w. All (λ e. unsigned_abs e ≤ table.now.limit) w.narrow) table.now.rows }
     requires bound { table.now.limit * sizes numbers.now < 2 ^ 127 }
-    ensures { IsTrue result → RowsFollow table.now.rows numbers.now vertex.now }
+    ensures { IsTrue result → NarrowRowsFollow table.now.rows numbers.now vertex.now }
 {
     let rows = table.rows.as_slice();
     for i in 0..rows.len() {
-        let number = narrow_row_product(rows[i].cells.as_slice(), numbers, table.limit);
+        let number = narrow_row_product(rows[i].narrow.as_slice(), numbers, table.limit);
         if !is_on(side(vertex, i), number) {
             return false;
         }

@@ -16,4 +16,6 @@ mod PartsBack
 mod Good
 mod ChainBack
 mod Back
+mod Readable
+mod Within
 mod Same

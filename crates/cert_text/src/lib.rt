@@ -40,6 +40,6 @@ mod write;
 
 pub use cert::Cert;
 pub use fault::CertFault;
-pub use laws::{same_content, tree_reads_back};
+pub use laws::{read_is_within, same_content, tree_reads_back};
 pub use read::read_cert;
 pub use write::write_cert;

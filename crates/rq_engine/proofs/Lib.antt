@@ -1,7 +1,6 @@
 pub mod Asked
 pub mod Causes
 pub mod Certifying
-pub mod Checks
 pub mod Costs
 pub mod Fits
 pub mod Listed

@@ -3,7 +3,7 @@ ghost use Rattle.std.specs.Prelude.{IfOk, IfErr};
 ghost use Rattle.rq_engine.specs.Checks.{HasCheckCause, IsCheckedOf};
 
 use cert_checker::{Verdict, check};
-use cert_text::{Cert, CertFault, read_cert};
+use cert_text::{Cert, CertFault, read_cert, read_is_within};
 use frac_core::OutOfMemory;
 use report_text::{Halt, Refusal};
 use rq_fan::Gate;
@@ -23,6 +23,7 @@ pub(crate) fn check_bytes<R: Threads + Sync, G: Gate>(
     ensures checked { IfOk result (IsCheckedOf bytes.now) }
     ensures cause { IfErr result (HasCheckCause bytes.now) }
 {
+    read_is_within();
     let cert = match read_cert(alloc, bytes) {
         Ok(cert) => cert,
         Err(CertFault::OutOfMemory) => return Err(Halt::OutOfMemory),

@@ -1,5 +1,5 @@
 -- A product more.
-use Rattle.std.proofs.Common.{rules, arith, ◌≡◌, ◌<◌, ◌+ℤ◌, ◌*ℤ◌, pos, length, get_or, refl, sym, ap, ◌∙◌, to_z, of_z, w64}
+use Rattle.std.proofs.Common.{rules, arith, ◌≡◌, ◌<◌, ◌+ℤ◌, ◌*ℤ◌, pos, length, get_or, refl, sym, ap, ◌∙◌, to_z, of_z}
 use Rattle.std.specs.Prelude.{slice_get, Some}
 use mir.Syntax.{w128}
 use Rattle.std.proofs.lemmas.Option.{slice_get_read, slice_get-get_or, same_Some}
@@ -16,9 +16,8 @@ loop-i-preserved c =
     let within : i < length column = omega (arith, c.loop-i-test.true, c.requires) in
     let read : slice_get column i ≡ Some n = slice_get_read column (length column) i n refl within c.index-column-i.is in
     let item : n ≡ get_or column i (pos 0) = same_Some n (get_or column i (pos 0)) (sym read ∙ slice_get-get_or column i (pos 0) within) in
-    let short : to_z w64 (of_z w64 x) ≡ x = search rules in
     let plain : to_z w128 (of_z w128 x) ≡ x = search rules in
-    let made : c.in_ok-sum.sum ≡ c.loop-i.sum +ℤ x *ℤ n = rw (short, plain) at (c.in_ok-sum.ensures {u = tt}) in
+    let made : c.in_ok-sum.sum ≡ c.loop-i.sum +ℤ x *ℤ n = rw (plain) at (c.in_ok-sum.ensures {u = tt}) in
     sum_more row column i c.loop-i.sum c.in_ok-sum.sum c.loop-i-test.true c.requires c.loop-i.invariant (made ∙ ap (λ z. c.loop-i.sum +ℤ x *ℤ z) item)
 
 pub returns : goal.returns

@@ -15,7 +15,8 @@ left_values-requires-clause-same c =
     let same : length c.as_slice-factors.result.now ≡ c.args.problem.now.columns = search rules in
     let many = (c.in_ok-numbers.ensures {u = tt}).size in
     let read = ap length c.as_slice-2.ensures in
-    λ k d l. let wide = wide_rows c.args.problem.now c.args.table.now c.requires k d l in omega (arith, wide, same, many, read)
+    let narrow = c.requires.narrow c.if-not-table.false in
+    λ k d l. let wide = wide_rows c.args.problem.now c.args.table.now c.requires k d l in let all = ap length (narrow k d l) in omega (arith, wide, same, many, read, all)
 
 pub returns : goal.returns
 returns c =

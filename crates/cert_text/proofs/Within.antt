@@ -8,35 +8,32 @@ use Rattle.loss_model.specs.Values.{exact_row}
 use Rattle.cert_text.specs.Certificates.{cert_of, cert_of_data, is_too_large, json_of, layout_of, or_not_json, or_version, top_members, version_of, within_limits}
 use Rattle.cert_text.specs.Contents.{Content, content}
 use Rattle.cert_text.specs.Limits.{IsWithinLimits, most_intervals, most_segments, most_sides}
-use Rattle.cert_text.specs.Reading.{Reading, on_read, or_shape}
+use Rattle.cert_text.specs.Reading.{or_shape}
 use Rattle.cert_text.specs.declared.cert.Cert.{Cert}
 use Rattle.cert_text.specs.declared.fault.CertFault.{CertFault}
 use Rattle.cert_text.specs.declared.fault.CertFault.TheVariants.{TooLarge}
-
--- what was read was read step by step
-read_ok : {A B : Type 0} (r : Reading A) (f : A → Reading B) (x : B) → on_read r f ≡ Ok x → (a : A) × (f a ≡ Ok x)
-read_ok (Ok a) f x h = (a, h)
-read_ok (Err e) f x h = absurd (cc h)
+use Rattle.cert_text.proofs.Readable.{AreReadable, read_both, top_readable}
 
 small : (b : Bool) (fault : CertFault) (c x : Content) → (if b then Err fault else Ok c) ≡ Ok x → (b ≡ false) × (c ≡ x)
 small true fault c x h = absurd (cc h)
 small false fault c x h = (refl, cc h)
 
-not_large : (bytes : List ℕ) (c : Content) → cert_of bytes ≡ Ok c → is_too_large c ≡ false
+read_parts : (bytes : List ℕ) (c : Content) → cert_of bytes ≡ Ok c → (is_too_large c ≡ false) × AreReadable c
 unfolding cert_of cert_of_data
-not_large bytes c h =
-    let parsed = read_ok (or_not_json (json_of bytes)) cert_of_data c h in
-    let top = read_ok (or_shape (as_object parsed.0)) _ c parsed.1 in
-    let version = read_ok (version_of parsed.0) _ c top.1 in
-    let layout = read_ok (or_version (layout_of version.0)) _ c version.1 in
-    let all = read_ok (top_members layout.0 top.0) within_limits c layout.1 in
-    let found = small (is_too_large all.0) TooLarge all.0 c all.1 in
-    subst (λ (c : Content). is_too_large c ≡ false) found.1 found.0
+read_parts bytes c h =
+    let parsed = read_both (or_not_json (json_of bytes)) cert_of_data c h in
+    let top = read_both (or_shape (as_object parsed.0)) _ c parsed.2 in
+    let version = read_both (version_of parsed.0) _ c top.2 in
+    let layout = read_both (or_version (layout_of version.0)) _ c version.2 in
+    let all = read_both (top_members layout.0 top.0) within_limits c layout.2 in
+    let found = small (is_too_large all.0) TooLarge all.0 c all.2 in
+    subst (λ (c : Content). (is_too_large c ≡ false) × AreReadable c) found.1 (found.0, top_readable layout.0 top.0 all.0 all.1)
 
 pub read_within : (bytes : List ℕ) (cert : Cert) → cert_of bytes ≡ Ok (content cert) → IsWithinLimits cert
 read_within bytes cert h =
     let c = content cert in
-    let columns = or_parts (nat_lt most_columns c.problem.columns) _ (not_large bytes c h) in
+    let parts = read_parts bytes c h in
+    let columns = or_parts (nat_lt most_columns c.problem.columns) _ parts.0 in
     let rows = or_parts (nat_lt most_rows (length c.problem.rows)) _ columns.1 in
     let segments = or_parts (nat_lt most_segments (length c.segments)) _ rows.1 in
     let intervals = or_parts (nat_lt most_intervals (length c.intervals)) (nat_lt most_sides (length c.problem.rows * length c.segments)) segments.1 in
@@ -47,4 +44,5 @@ read_within bytes cert h =
       segments = ltb-false most_segments (length c.segments) segments.0;
       intervals = ltb-false most_intervals (length c.intervals) intervals.0;
       sides = subst (λ (n : ℕ). n ≤ most_sides) sides (ltb-false most_sides (length c.problem.rows * length c.segments) intervals.1);
+      digits = λ wide. record { segments = parts.1.segments; intervals = parts.1.intervals };
     }
