@@ -1,6 +1,6 @@
 -- The numbers of a certificate that was read have no more digits than are read.
-use Rattle.std.proofs.Common.{◌≡◌, ◌<◌, ◌≤◌, ◌/◌, ◌^◌, ◌*◌, ◌-◌, ◌+◌, ℕ, zero, suc, Bool, true, false, ℤ, pos, negsuc, neg_ℤ, unsigned_abs, nat_lt, nat_le, IfSome, List, [], ◌∷◌, All, Option, Some, None, Ok, Err, codes, length, map, option_map, slice_set, ◌%◌, ◌&&◌, if◌then◌else◌}
-use Rattle.std.proofs.Common.{arith, refl, sym, ap, subst, ◌∙◌}
+use Rattle.std.proofs.Common.{◌≡◌, ◌<◌, ◌≤◌, ◌/◌, ◌^◌, ◌*◌, ◌-◌, ◌+◌, ℕ, zero, suc, Bool, true, false, pos, neg_ℤ, unsigned_abs, nat_lt, nat_le, IfSome, List, [], ◌∷◌, All, Option, Some, None, Ok, Err, codes, length, map, option_map, slice_set, ◌%◌, ◌&&◌, if◌then◌else◌}
+use Rattle.std.proofs.Common.{arith, refl, ap, subst}
 use Rattle.std.specs.Prelude.{⊤}
 use Rattle.std.specs.List.{list_any, before_first, after_first}
 use Rattle.std.specs.Str.{all_ascii_digits}
@@ -9,13 +9,14 @@ use Rattle.std.specs.Str.Parse.{AllDigits, digits_value, starts_with_minus, with
 use Rattle.std.proofs.Math.Nat.{div-le_self, pow-suc}
 use Rattle.std.proofs.lemmas.Bool.{and_parts, leb-true, ltb-false, ltb-true}
 use Rattle.std.proofs.lemmas.Bool.Decides.{nat_tests}
+use Rattle.std.proofs.lemmas.Int.{ints}
 use Rattle.std.proofs.lemmas.Int.Digits.{digits_value-lt}
 use Rattle.std.proofs.lemmas.List.{length-append}
 use Rattle.std.proofs.lemmas.List.Elements.{All-cons, All-head, All-nil, All-set, All-tail}
 use Rattle.rational_laws.specs.Fraction.{Fraction}
 use Rattle.rational_laws.specs.Rational.{ℚ}
 use Rattle.frac_core.specs.Gcd.{gcd}
-use Rattle.frac_core.specs.NumberText.{are_digits, is_slash, with_sign, written}
+use Rattle.frac_core.specs.NumberText.{is_slash, with_sign, written}
 use Rattle.natural.specs.Decimal.{decimal_text, glyphs}
 use Rattle.natural.proofs.Digits.{glyphs-zero, glyphs_step, text-glyphs, text-zero}
 use Rattle.ratio.specs.Signed.{signed}
@@ -122,14 +123,12 @@ body_fine t x = by (list_any is_slash t)
     by true h = fraction_fine (digits_number (before_first is_slash t)) (digits_number (after_first is_slash t)) x (digits_fine (before_first is_slash t)) (digits_fine (after_first is_slash t)) h
     by false h = whole_fine (digits_number t) x (digits_fine t) h
 
-size_neg : (z : ℤ) → unsigned_abs (neg_ℤ z) ≡ unsigned_abs z
-size_neg (pos zero) = refl
-size_neg (pos (suc n)) = refl
-size_neg (negsuc n) = refl
-
 signed_fine : (negative : Bool) (o : Option Fraction) (x : Fraction) → ((y : Fraction) → o ≡ Some y → AreFine y) → option_map (with_sign negative) o ≡ Some x → AreFine x
 signed_fine negative None x f h = absurd (cc h)
-signed_fine true (Some y) x f h = let same : with_sign true y ≡ x = cc h in subst AreFine same (subst IsFine (sym (size_neg y.num)) (f y refl).0, (f y refl).1)
+signed_fine true (Some y) x f h =
+    let same : with_sign true y ≡ x = cc h in
+    let size : unsigned_abs y.num ≡ unsigned_abs (neg_ℤ y.num) = omega (arith, ints) in
+    subst AreFine same (subst IsFine size (f y refl).0, (f y refl).1)
 signed_fine false (Some y) x f h = let same : with_sign false y ≡ x = cc h in subst AreFine same (f y refl)
 
 narrow_fine : (n : ℕ) → nat_le n (2 ^ 127 - 1) ≡ true → IsFine n
@@ -150,17 +149,17 @@ unfolding plain
 written_fine Narrow t x h = if_narrow_fine (written t) x h
 written_fine Long t x h = signed_fine (starts_with_minus t) (plain_body (without_leading_sign t)) x (body_fine (without_leading_sign t)) h
 
-size_of : (b : Bool) (m : ℕ) → unsigned_abs (signed b m) ≡ m
-size_of true zero = refl
-size_of true (suc m) = refl
-size_of false m = refl
+signed_short : (b : Bool) (m : ℕ) → length (decimal_text m) ≤ most_digits → length (decimal_text (unsigned_abs (signed b m))) ≤ most_digits
+signed_short true zero h = h
+signed_short true (suc m) h = h
+signed_short false m h = h
 
 lowest_readable : (x : Fraction) → AreFine x → IsReadable (lowest x)
 unfolding lowest
 lowest_readable x fine =
     let divisor = gcd (unsigned_abs x.num) x.den in
     record {
-      num = subst (λ m. length (decimal_text m) ≤ most_digits) (sym (size_of _ (unsigned_abs x.num / divisor))) (fine.0 (unsigned_abs x.num / divisor) (div-le_self (unsigned_abs x.num) divisor));
+      num = signed_short _ (unsigned_abs x.num / divisor) (fine.0 (unsigned_abs x.num / divisor) (div-le_self (unsigned_abs x.num) divisor));
       den = fine.1 (x.den / divisor) (div-le_self x.den divisor);
     }
 
