@@ -30,7 +30,7 @@ use Rattle.rq_input.specs.Rows.{HasRows}
 use Rattle.rq_input.specs.declared.input.Input.{Input}
 use Rattle.rq_engine.specs.Asks.{IsFitAsk}
 use Rattle.rq_engine.specs.Fit.{IsRightProcess}
-use Rattle.rq_engine.specs.Stops.{IsFitSpill, most}
+use Rattle.rq_engine.specs.Stops.{most}
 use Rattle.rq_engine.proofs.Costs.{high_costs, low_costs}
 use Rattle.rq_cli.specs.Outcomes.{IsHalted, IsRun, Stream}
 use Rattle.rq_cli.specs.declared.outcome.Outcome.{Outcome}
@@ -99,9 +99,6 @@ module _ (words : List (List ℕ)) (source source' : Stream) where
       overflow_at : (place : Place) (trail : Trail) (spill : Spill Frac128) → IsUnfit (halts.Overflow place trail spill) → IsAtProcess place
       overflow_at places.Process trail spill h = tt
       overflow_at (places.Interval column tau) trail spill (inl h) = let of = h.lacks.cause in not_ended h.fit h.ask h.lacks.input h.lacks.rows h.was of.process of.results of.short
-      overflow_at (places.Predict rec) trail spill (inr h) =
-          let of = h.lacks.cause in
-          not_ended h.fit h.ask h.lacks.asked.input h.lacks.rows h.was (record { segments = of.segments; trail = trail }) of.results of.short
       overflow_at other trail spill (inr h) = h.lacks.cause
       overflow_at other trail spill (inl h) = h.lacks.cause
 
@@ -132,11 +129,6 @@ module _ (words : List (List ℕ)) (source source' : Stream) where
       in_process fit input was lo hi limit trail spill (inr (inl h)) = absurd (ranked fit input was (full_rank (sample value input.problem) (slice_index h.basis) h.here.a h.here.is_basis))
       in_process fit input was lo hi limit trail spill (inr (inr h)) = absurd (ranked fit input was (full_rank (sample value input.problem) (slice_index h.basis) h.here.a h.here.is_basis))
 
-      in_fit : (fit : FitJob) (input : Input) → WasInput words source source' fit input → (n : ℕ) (lo hi : ℚ) (limit : ℕ) (trail : Trail) (spill : Spill Frac128)
-          → IsFitSpill value most input.problem n lo hi limit trail spill → StartOverflows words source source' trail spill
-      in_fit fit input was n lo hi limit trail spill (inl h) = in_process fit input was lo hi limit trail spill h
-      in_fit fit input was n lo hi limit trail spill (inr h) = absurd (no_results fit input was lo hi (record { segments = h.segments; trail = trail }) h.results)
-
       -- no limit is reached
       unlimited : (place : Place) (limit : ℕ) (trail : Trail) → ¬ IsHalted words source source' (halts.PivotLimit place limit trail)
       unlimited place limit trail h = by (limit_of place limit trail h)
@@ -158,10 +150,9 @@ module _ (words : List (List ℕ)) (source source' : Stream) where
           by (inr h) = at_rows place h
 
       in_start : (place : Place) (trail : Trail) (spill : Spill Frac128) → IsUnfit (halts.Overflow place trail spill) → IsDependentOutcome words source source' (Overflow place trail spill)
-      in_start places.Process trail spill (inl h) = in_fit h.fit h.lacks.input h.was _ _ _ _ trail spill h.lacks.cause
+      in_start places.Process trail spill (inl h) = in_process h.fit h.lacks.input h.was _ _ _ trail spill h.lacks.cause
       in_start places.Process trail spill (inr h) = in_process h.fit h.lacks.asked.input h.was _ _ _ trail spill h.lacks.cause
       in_start (places.Interval column tau) trail spill (inl h) = no_results h.fit h.lacks.input h.was _ _ h.lacks.cause.process h.lacks.cause.results
-      in_start (places.Predict rec) trail spill (inr h) = no_results h.fit h.lacks.asked.input h.was _ _ (record { segments = h.lacks.cause.segments; trail = trail }) h.lacks.cause.results
       in_start other trail spill (inr h) = h.lacks.cause
       in_start other trail spill (inl h) = h.lacks.cause
 

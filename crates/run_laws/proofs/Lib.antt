@@ -26,7 +26,6 @@ mod Written
 -- outcomes of a run
 mod AskedInputs
 mod AskedIntervals
-mod Spilled
 mod Jobs
 mod Needed
 mod Answering

@@ -1,5 +1,5 @@
 -- What stops a run was needed.
-use Rattle.std.specs.Prelude.{◌≡◌, ℕ, ◌*◌, Bool, List}
+use Rattle.std.specs.Prelude.{◌≡◌, ℕ, ◌*◌, Bool, List, [], ◌∷◌}
 use Rattle.std.proofs.Common.{refl, sym, subst, inl, inr}
 use Rattle.rational_laws.specs.Fraction.{Fraction, rational}
 use Rattle.frac_core.specs.declared.frac128.Frac128.{Frac128}
@@ -14,13 +14,15 @@ use Rattle.pivot_model.specs.Duals.{HasCosts}
 use Rattle.walk_model.specs.WalkTrails.{ReachesProcessLimit, ReachesIntervalLimit}
 use Rattle.pivot_laws.specs.BoundLaws.{further_bases}
 use Rattle.stop_laws.proofs.Needed.{below, dependent}
-use Rattle.stop_laws.proofs.Spilled.{of_process, start}
+use Rattle.stop_laws.specs.NeededStops.{DoesOverflow}
+use Rattle.stop_laws.proofs.Spilled.{of_process, operation, start}
 use Rattle.stop_laws.proofs.IntervalsNeeded.{interval_needed}
 use Rattle.stop_laws.proofs.IntervalsSpilled.{of_interval}
 use Rattle.pivot_laws.proofs.Bounds.{process_within}
 use Rattle.lambda_path.specs.Laws.{PathHasCosts}
 use Rattle.nested_test.specs.Restricted.{restricted_problem}
 use Rattle.rank_inversion.specs.Stops.{IsBound}
+use Rattle.tv_penalty.specs.Operations.{OverflowsFirst, SitedOperation}
 use Rattle.rq_words.specs.declared.job.FitJob.{FitJob}
 use Rattle.rq_words.specs.declared.job.Job.{Job}
 use Rattle.rq_words.specs.declared.job.Job.TheVariants as jobs
@@ -40,12 +42,11 @@ use Rattle.rq_engine.proofs.Testing.{data_stays, input_data, restricted_low}
 use Rattle.rq_engine.specs.Answers.{LacksFit, LacksPathFit, LacksPredictFit, LacksTestFit}
 use Rattle.rq_engine.proofs.Asked.{asked_job}
 use Rattle.rq_cli.specs.Outcomes.{Stream, IsHalted, WereRead}
-use Rattle.run_laws.specs.NeededOutcomes.{IsLimitedAt, OverflowsAt, ReachesItsIntervalLimit, ReachesItsLimit, ReachesLimitAt, WasInput, WasPosed, WasWhole}
+use Rattle.run_laws.specs.NeededOutcomes.{IsLimitedAt, ReachesItsIntervalLimit, ReachesItsLimit, ReachesLimitAt, WasInput, WasPosed, WasWhole}
 use Rattle.rq_input.proofs.PlainInputs.{plain_rows}
 use Rattle.rq_input.proofs.TestedInputs.{ranked_rows}
 use Rattle.run_laws.proofs.AskedIntervals.{asked_there, critical_there, inner_costs}
 use Rattle.run_laws.proofs.Jobs.{Lacks, NoFit, NoPath, NoPredictions, NoTest, NoVerdict, dependence_lacks, limit_lacks, overflow_lacks}
-use Rattle.run_laws.proofs.Spilled.{of_first, of_fit, of_row, of_scored}
 
 -- ---- a limit
 
@@ -87,6 +88,14 @@ predict_reached : (fit : FitJob) (bytes : List ℕ) (place : Place) (limit : ℕ
     → ReachesLimitAt place fit h.asked.input.problem limit trail
 predict_reached fit bytes places.Process limit trail ask h = reached_process fit h.asked.input.problem limit trail (low_costs fit ask h.asked.input h.rows) h.cause.0 h.cause.1
 predict_reached fit bytes other limit trail ask h = absurd h.cause
+
+-- ---- the costs of a path
+
+-- the first of their operations that overflows
+of_first : (operations : List SitedOperation) (s : Spill Frac128) → OverflowsFirst operations s → DoesOverflow value most s
+of_first [] s h = absurd h
+of_first (o ∷ os) s (inl h) = operation value most s h
+of_first (o ∷ os) s (inr h) = of_first os s h.1
 
 -- a job and its bytes, of which the input was read
 module _ (lawful : PathHasCosts) (words : List (List ℕ)) (source source' : Stream) where
@@ -153,19 +162,17 @@ module _ (lawful : PathHasCosts) (words : List (List ℕ)) (source source' : Str
 
   -- ---- an overflow
 
-  pub overflow_needed : (place : Place) (trail : Trail) (spill : Spill Frac128) → IsHalted words source source' (Overflow place trail spill) → OverflowsAt place spill
+  pub overflow_needed : (place : Place) (trail : Trail) (spill : Spill Frac128) → IsHalted words source source' (Overflow place trail spill) → DoesOverflow value most spill
   overflow_needed place trail spill h = by place (overflow_lacks words source source' place trail spill h)
     where
-      by : (place : Place) → Lacks words source source' (Overflow place trail spill) → OverflowsAt place spill
-      by places.Check lacks = tt
-      by places.Process (NoFit h) = of_fit value most spill h.lacks.input.problem _ _ _ _ trail h.lacks.cause
+      by : (place : Place) → Lacks words source source' (Overflow place trail spill) → DoesOverflow value most spill
+      by places.Process (NoFit h) = of_process value most spill h.lacks.input.problem _ _ _ trail h.lacks.cause
       by places.Process (NoPredictions h) = of_process value most spill h.lacks.asked.input.problem _ _ _ trail h.lacks.cause
-      by places.Process (NoTest h) = of_scored h.job.fit (restricted_problem h.job.tested h.lacks.input.problem) trail spill h.lacks.cause
+      by places.Process (NoTest h) = of_process value most spill (restricted_problem h.job.tested h.lacks.input.problem) _ _ _ trail h.lacks.cause
       by places.Process (NoPath h) = of_process value most spill h.lacks.cause.problem _ _ _ trail h.lacks.cause.cause
       by (places.Interval column tau) (NoFit h) =
           of_interval value most spill h.lacks.input.problem column (rational (value tau)) (rational (value h.lacks.cause.stopped.0)) h.fit.limit trail h.lacks.cause.stopped.1.cause
       by places.Full (NoTest h) = start value most spill h.lacks.input.problem trail h.lacks.cause
-      by (places.Predict rec) (NoPredictions h) = of_row h.lacks.cause.segments h.lacks.cause.row spill h.lacks.cause.operation
       by places.Path (NoPath h) = of_first _ spill h.lacks.cause.2
       by place (NoVerdict h) = absurd h.cause
       by place (NoFit h) = absurd h.lacks.cause

@@ -5,7 +5,7 @@ use Rattle.std.specs.declared.cmp.Ordering.TheVariants.{Less}
 use Rattle.std.proofs.lemmas.Int.{ints}
 use Rattle.std.proofs.lemmas.Bool.{cases_lt, eq-eqb, eqb-true}
 use Rattle.std.proofs.lemmas.Option.{slice_get_within}
-use Rattle.rational_laws.specs.Fraction.{rational}
+use Rattle.rational_laws.specs.Fraction.{Fraction, rational}
 use Rattle.rational_laws.specs.Order.{cmp_ℚ}
 use Rattle.rational_laws.specs.Rational.{ℚ, ◌*ℚ◌, neg_ℚ, whole, ◌≤ℚ◌}
 use Rattle.rational_laws.proofs.OrderLaws.{cmp_ℚ-Less, le_from_not}
@@ -142,7 +142,7 @@ module _ (p : Problem Frac128) (e : End) (sides : length e.vertex.sides ≡ leng
   bound_true condition j i Down h k = tt
   bound_true condition j i Basic h k = ((h, (k, tt)), tt)
 
-  module _ (stated : Frac128) (sound : IsSoundEnd p e.vertex e.theta e.basic stated) where
+  module _ (stated : Fraction) (sound : IsSoundEnd p e.vertex e.theta e.basic stated) where
     bounds_true : (condition j : ℕ) → AreTrue (bounds condition (sample value128 p) j e)
     bounds_true condition j =
         true_upto (length p.rows) (λ i. bound_test condition j (sample value128 p) e i (side_in e.vertex i)) (λ i l.
@@ -162,7 +162,7 @@ module _ (p : Problem Frac128) (e : End) (sides : length e.vertex.sides ≡ leng
     balances_true j before =
         true_upto p.columns (λ k. one 6 j (before + k + 1) (balance (sample value128 p) e k) Equal (given (whole (pos 0)))) (λ k l. ((balance_is k l, tt), tt))
 
-    objective_is : worth (objective (sample value128 p) e) ≡ rational (value128 stated)
+    objective_is : worth (objective (sample value128 p) e) ≡ rational stated
     objective_is =
         let y = (sample value128 p).y in
         worth-sum (length p.rows) (λ i. formula.times (given (y i)) (dual_at_row (sample value128 p) e i))

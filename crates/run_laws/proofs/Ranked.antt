@@ -212,7 +212,7 @@ module _ (p : Problem Frac128) (a : IntervalProof) (meets : MeetsConditions valu
   -- ---- what lies beyond an end
 
   module _ (way : Way) (m : ℕ) (v : Vertex) (sides : length v.sides ≡ length p.rows) where
-    finite_true : (x : Frac128) (f : List Fraction) → rational (value128 x) ≡ number_at v.coef a.column → MeetsOutside value128 p a.column tau crit q v f
+    finite_true : (x : Fraction) (f : List Fraction) → rational x ≡ number_at v.coef a.column → MeetsOutside value128 p a.column tau crit q v f
         → Holds (sign_of way) (rank_statistic (sample value128 p) a.column (dual_value value128 p v f tau)) (whole (pos 0))
         → AreTrue (finite_tests asked way m x v (values_of asked v f))
     finite_true x f is outside sign = (
@@ -240,14 +240,14 @@ module _ (p : Problem Frac128) (a : IntervalProof) (meets : MeetsConditions valu
       (parts_upto (length p.rows) (ray_parts (sample value128 p) (values_of asked v inside) ray) (λ i l. along_true v inside sides ray i l (stated i l)), tt),
     )
 
-  high_true : (m : ℕ) (e : Ending Frac128) (b : Bound Fraction) (y : Beyond Frac128) → length e.vertex.sides ≡ length p.rows
+  high_true : (m : ℕ) (e : Ending) (b : Bound Fraction) (y : Beyond) → length e.vertex.sides ≡ length p.rows
       → MeetsHighBound value128 p a.column tau crit q e.vertex e.inside b y → AreTrue (beyond_tests asked High m e b y)
   high_true m e (Finite x) (Outside f) sides h = finite_true High m e.vertex sides x f h.0 h.1 h.2
   high_true m e Infinite (Ray r) sides h = infinite_true High m e.vertex sides (number_at r) e.inside h.0 h.1
   high_true m e (Finite x) (Ray r) sides h = absurd h
   high_true m e Infinite (Outside f) sides h = absurd h
 
-  low_true : (m : ℕ) (e : Ending Frac128) (b : Bound Fraction) (y : Beyond Frac128) → length e.vertex.sides ≡ length p.rows
+  low_true : (m : ℕ) (e : Ending) (b : Bound Fraction) (y : Beyond) → length e.vertex.sides ≡ length p.rows
       → MeetsLowBound value128 p a.column tau crit q e.vertex e.inside b y → AreTrue (beyond_tests asked Low m e b y)
   low_true m e (Finite x) (Outside f) sides h = finite_true Low m e.vertex sides x f h.0 h.1 h.2
   low_true m e Infinite (Ray r) sides h = infinite_true Low m e.vertex sides (number_at r) e.inside (h.0 ∙ ring_ℚ [] (number (negsuc 0)) (negated (number (pos 1))) refl) h.1
@@ -277,7 +277,7 @@ module _ (p : Problem Frac128) (a : IntervalProof) (meets : MeetsConditions valu
     ),
   )
 
-  order_true : (m : ℕ) (low high : Bound Fraction) → AreInOrder (bound_of value128 low) (bound_of value128 high) → AreTrue (order_tests m low high)
+  order_true : (m : ℕ) (low high : Bound Fraction) → AreInOrder (bound_of low) (bound_of high) → AreTrue (order_tests m low high)
   order_true m (Finite x) (Finite y) h = ((h, tt), tt)
   order_true m (Finite x) Infinite h = tt
   order_true m Infinite (Finite y) h = tt
@@ -300,7 +300,7 @@ module _ (p : Problem Frac128) (a : IntervalProof) (meets : MeetsConditions valu
 
 -- ---- form
 
-end_formed : (p : Problem Frac128) (e : Ending Frac128) → IsSoundEnding p e → ArePartsTrue (end_form p e)
+end_formed : (p : Problem Frac128) (e : Ending) → IsSoundEnding p e → ArePartsTrue (end_form p e)
 end_formed p e h =
     let count : (a b : ℕ) → a ≡ b → whole (pos a) ≡ whole (pos b) = λ a b e. ap (λ (n : ℕ). whole (pos n)) e in
     (count _ _ h.vertex.coef, (count _ _ h.vertex.sides, (count _ _ h.vertex.size, (count _ _ h.inside, (count _ _ h.beyond, tt)))))

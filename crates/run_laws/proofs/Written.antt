@@ -26,7 +26,7 @@ use Rattle.rank_walk_model.specs.Ends.{IsEndAt, IsHandedOut}
 use Rattle.rank_walk_model.specs.Intervals.{stated, statement}
 use Rattle.rank_walk_model.specs.RankWalks.{Way}
 use Rattle.rank_walk_model.proofs.Intervals.{conditions, stated_each}
-use Rattle.rq_engine.specs.Asked.{Asked}
+use Rattle.rank_inversion.specs.declared.column_test.Asked.{Asked}
 use Rattle.cert_text.specs.Laws.{SameContent}
 use Rattle.cert_text.specs.Limits.{IsWithinLimits}
 use Rattle.cert_text.specs.Trees.{cert_text}
@@ -79,7 +79,7 @@ costs_of input p theta same costs =
 
 -- ---- intervals
 
-beyond_size : (p : Problem Frac128) (way : Way) (j : ℕ) (tau bound : ℚ) (at : ℕ → ℕ) (a : ℕ → ℕ → ℚ) (t u : ℚ) (k : ℕ) (d : Direction) (v : Vertex) (inside : List Fraction) (b : Bound Fraction) (e : Beyond Frac128)
+beyond_size : (p : Problem Frac128) (way : Way) (j : ℕ) (tau bound : ℚ) (at : ℕ → ℕ) (a : ℕ → ℕ → ℚ) (t u : ℚ) (k : ℕ) (d : Direction) (v : Vertex) (inside : List Fraction) (b : Bound Fraction) (e : Beyond)
     → length v.basis.rows ≡ p.columns → IsHandedOut value p way j tau bound at a t u k d v inside b e
     → (length inside ≡ p.columns) × (length (beyond_list e) ≡ p.columns)
 beyond_size p way j tau bound at a t u k d v inside (Finite x) (Outside f) size h = (h.1.size ∙ size, h.2.size ∙ size)

@@ -1,6 +1,6 @@
 -- Law. A run that stops for a limit, for dependent columns or for a certificate that is too long had to; what overflows is an
 -- operation on the printed operands.
-use Rattle.std.specs.Prelude.{◌≡◌, ◌⊎◌, ℕ, ◌*◌, ◌<◌, Bool, true, false, is_some, List, Some, ⊤}
+use Rattle.std.specs.Prelude.{◌≡◌, ◌⊎◌, ℕ, ◌*◌, ◌<◌, Bool, true, false, is_some, List, Some}
 use Rattle.rational_laws.specs.Fraction.{Fraction, rational}
 use Rattle.rational_laws.specs.Rational.{ℚ}
 use Rattle.frac_core.specs.declared.frac128.Frac128.{Frac128}
@@ -132,16 +132,11 @@ LimitIsNeeded =
     (words : List (List ℕ)) (source source' out out' err err' : Stream) (place : Place) (limit : ℕ) (trail : Trail)
     → IsRun words source source' out out' err err' (PivotLimit place limit trail) → IsLimitedAt words source source' place limit trail
 
--- the operation overflows; of one of a certificate's tests the cause itself says so
-abbrev pub OverflowsAt : Place → Spill Frac128 → Type 0
-OverflowsAt places.Check spill = ⊤
-OverflowsAt _ spill = DoesOverflow value most spill
-
 -- Overflow comes only with an operation that overflows
 abbrev pub OverflowIsNeeded : Type 0
 OverflowIsNeeded =
     (words : List (List ℕ)) (source source' out out' err err' : Stream) (place : Place) (trail : Trail) (spill : Spill Frac128)
-    → IsRun words source source' out out' err err' (Overflow place trail spill) → OverflowsAt place spill
+    → IsRun words source source' out out' err err' (Overflow place trail spill) → DoesOverflow value most spill
 
 -- this is the whole input of a fit, or of a rank test with this fit
 abbrev pub WasWhole : List (List ℕ) → (before now : Stream) → FitJob → Input → Type 0
