@@ -48,7 +48,7 @@ fn tell_interval(told: &mut Told, found: &Interval) {
     told.put_ratio(&found.crit);
     told.put("; ");
     match &found.projection {
-        Some(factors) => told.put_fractions(factors.as_slice()),
+        Some(factors) => told.put_ratios(factors.as_slice()),
         None => told.put("none"),
     }
     told.put("; ");
