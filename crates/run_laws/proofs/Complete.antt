@@ -32,7 +32,7 @@ use Rattle.rq_engine.specs.Answers.{IsRight, HasFitCause, HasCertifyCause, HasPr
 use Rattle.rq_engine.specs.Jobs.{IsJobOf, sample_fit}
 use Rattle.rq_cli.specs.Outcomes.{Stream, IsRun, IsAnswered, IsHalted, IsTooLong, Takes, WereRead}
 use Rattle.rq_cli.specs.declared.outcome.Outcome.{Outcome}
-use Rattle.rq_cli.specs.declared.outcome.Outcome.TheVariants.{Refused, PivotLimit, Rejected}
+use Rattle.rq_cli.specs.declared.outcome.Outcome.TheVariants.{PivotLimit}
 use Rattle.stop_laws.proofs.Needed.{dependent}
 use Rattle.run_laws.specs.Completeness.{NoneRose, IsWellFormed, IsAnswer, parts_of}
 use Rattle.run_laws.specs.NeededOutcomes.{IsFitJob, AskFit, WasInput, WasPosed, ReachesLimitAt, table_bytes}

@@ -19,7 +19,6 @@ use Rattle.tau_process.specs.Stops.{IsProcessSpill}
 use Rattle.stop_laws.proofs.Needed.{dependent, process_full}
 use Rattle.cert_checker.specs.declared.verdict.Rejection.{Rejection}
 use Rattle.rq_words.specs.declared.job.FitJob.{FitJob}
-use Rattle.rq_words.specs.declared.job.Job.{Job}
 use Rattle.rq_words.specs.declared.job.Job.TheVariants as jobs
 use Rattle.report_text.specs.declared.report.Place.{Place}
 use Rattle.report_text.specs.declared.report.Place.TheVariants as places

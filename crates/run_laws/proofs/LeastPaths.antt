@@ -1,5 +1,5 @@
 -- A printed path loses least at every lambda, and the sum of its absolute coefficients never rises.
-use Rattle.std.specs.Prelude.{◌≡◌, ℕ, zero, suc, ◌<◌, ◌≤◌, List, [], ◌∷◌, Option, Some, All, length, slice_get, get_or, pos}
+use Rattle.std.specs.Prelude.{◌≡◌, ℕ, zero, suc, ◌<◌, List, [], ◌∷◌, Option, Some, All, length, slice_get, get_or, pos}
 use Rattle.std.specs.Option.{option_map_or}
 use Rattle.std.proofs.Common.{arith, subst}
 use Rattle.rational_laws.specs.Fraction.{Fraction, rational}

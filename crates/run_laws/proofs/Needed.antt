@@ -24,7 +24,6 @@ use Rattle.nested_test.specs.Restricted.{restricted_problem}
 use Rattle.rank_inversion.specs.Stops.{IsBound}
 use Rattle.tv_penalty.specs.Operations.{OverflowsFirst, SitedOperation}
 use Rattle.rq_words.specs.declared.job.FitJob.{FitJob}
-use Rattle.rq_words.specs.declared.job.Job.{Job}
 use Rattle.rq_words.specs.declared.job.Job.TheVariants as jobs
 use Rattle.rq_words.specs.declared.job.PathJob.{PathJob}
 use Rattle.rq_words.specs.declared.job.TestJob.{TestJob}
