@@ -31,7 +31,7 @@ pub enum Outcome {
         limit: u32,
         trail: Trail,
     },
-    /// An operation of the solver, or of a condition of a certificate, overflows.
+    /// An operation of the solver, or of the costs of a path, overflows.
     Overflow {
         place: Place,
         trail: Trail,

@@ -1,4 +1,5 @@
 pub mod Asked
+mod Readable
 pub mod Causes
 pub mod Certifying
 pub mod Costs

@@ -13,6 +13,7 @@ pub mod Stops
 pub mod Tested
 -- what is right for its bytes
 pub mod Answers
+pub mod Digits
 pub mod Certificates
 pub mod Certifying
 pub mod Checks

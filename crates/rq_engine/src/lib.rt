@@ -22,6 +22,7 @@
 
 mod certify;
 mod check;
+mod digits;
 mod fit;
 mod halt;
 mod job;

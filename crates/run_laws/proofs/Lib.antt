@@ -21,6 +21,7 @@ mod Passing
 mod Ranked
 mod All
 mod Lengths
+mod Readable
 mod Checking
 mod Written
 -- outcomes of a run

@@ -49,11 +49,12 @@ use Rattle.rq_engine.specs.Answers.{IsCertified, IsRight}
 use Rattle.rq_engine.specs.Certificates.{IsWritten}
 use Rattle.rq_engine.specs.Jobs.{IsJobOf}
 use Rattle.rq_engine.proofs.Asked.{asked_job}
-use Rattle.run_laws.specs.Certificates.{HasFewDigits, Passes}
+use Rattle.run_laws.specs.Certificates.{Passes}
 use Rattle.run_laws.specs.Sound.{AreCosts, AreSound, IsSound, IsSoundEnding, IsSoundInterval, IsSoundSegment}
 use Rattle.run_laws.proofs.All.{all_true}
 use Rattle.run_laws.proofs.Checking.{one_report, undecided}
 use Rattle.run_laws.proofs.Lengths.{HasEntries, cert_long}
+use Rattle.run_laws.proofs.Readable.{few_digits}
 
 -- ---- segments
 
@@ -166,8 +167,8 @@ module _ (words : List (List ℕ)) (job : FitJob) (asked : IsJobOf words (jobs.C
               (stated_each certified.fit.intervals cert.intervals is.intervals));
         }
 
-    is_within : IsWritten cert → HasFewDigits cert → IsWithinLimits cert
-    is_within small few =
+    is_within : IsWritten cert → IsWithinLimits cert
+    is_within small =
         let is = certified.is in
         let many : length cert.intervals ≡ length certified.fit.intervals
         = sym (length-map cert.intervals Some) ∙ ap length is.intervals ∙ length-map certified.fit.intervals statement in
@@ -178,12 +179,12 @@ module _ (words : List (List ℕ)) (job : FitJob) (asked : IsJobOf words (jobs.C
           segments = omega (arith, small.short, cert_long cert (have_entries cert is_sound));
           intervals = omega (arith, many, zipped, few_asked certified.fit.problem.columns right.shaped.columns job.rank refl);
           sides = small.few;
-          digits = few;
+          digits = λ wide. few_digits cert small.readable;
         }
 
-pub written : SameContent → (words : List (List ℕ)) (job : FitJob) (bytes : List ℕ) (cert : Cert) → IsJobOf words (jobs.Certify job) → IsRight (jobs.Certify job) bytes (reports.Certificate cert) → HasFewDigits cert → Passes cert
-written same words job bytes cert asked right few =
-    let within = is_within words job asked right.0.0 cert right.0.2 right.1 few in
+pub written : SameContent → (words : List (List ℕ)) (job : FitJob) (bytes : List ℕ) (cert : Cert) → IsJobOf words (jobs.Certify job) → IsRight (jobs.Certify job) bytes (reports.Certificate cert) → Passes cert
+written same words job bytes cert asked right =
+    let within = is_within words job asked right.0.0 cert right.0.2 right.1 in
     let back = right.1.back within in
     let sound = all_true cert (is_sound words job asked right.0.0 cert right.0.2) in
     record { within = within; back = back; sound = sound; report = one_report same (cert_text cert) cert back sound; halt = undecided same (cert_text cert) cert back sound }

@@ -1,7 +1,6 @@
 -- Law. What `certify` writes passes: `check` of its text accepts it, unless memory ends.
-use Rattle.std.specs.Prelude.{◌≡◌, ℕ, false, List, ⊤}
+use Rattle.std.specs.Prelude.{◌≡◌, ℕ, List, ⊤}
 use Rattle.cert_text.specs.Limits.{IsWithinLimits}
-use Rattle.cert_text.specs.Numbers.{CertHas, IsReadable, cert_is_narrow}
 use Rattle.cert_text.specs.Trees.{cert_text}
 use Rattle.cert_text.specs.declared.cert.Cert.{Cert}
 use Rattle.cert_checker.specs.Certificates.{tests}
@@ -30,12 +29,8 @@ pub record Passes (cert : Cert) : Type 0 where
   pub report : (report : Report) → IsRight jobs.Check (cert_text cert) report → report ≡ reports.Checked cert
   pub halt : (halt : Halt) → HasCause jobs.Check (cert_text cert) halt → IsUndecided halt
 
--- where a number of it is wider than 127 bits, none has more digits than are read
-abbrev pub HasFewDigits : Cert → Type 0
-HasFewDigits cert = cert_is_narrow cert ≡ false → CertHas IsReadable cert
-
--- every such certificate that is right for words and bytes passes
+-- every certificate that is right for words and bytes passes
 abbrev pub WrittenCertificatesPass : Type 0
 WrittenCertificatesPass =
     (words : List (List ℕ)) (job : FitJob) (bytes : List ℕ) (cert : Cert)
-    → IsJobOf words (jobs.Certify job) → IsRight (jobs.Certify job) bytes (reports.Certificate cert) → HasFewDigits cert → Passes cert
+    → IsJobOf words (jobs.Certify job) → IsRight (jobs.Certify job) bytes (reports.Certificate cert) → Passes cert
