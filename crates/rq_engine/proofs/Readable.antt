@@ -1,5 +1,5 @@
 -- Digits that are counted, and lists that are gone through item by item, by a test.
-use Rattle.std.proofs.Common.{◌≡◌, ℕ, ◌+◌, ◌^◌, ◌<◌, ◌≤◌, ◌&&◌, Bool, true, false, List, [], ◌∷◌, length, drop, get_or, arith, lit<, refl, sym, ap, ◌∙◌}
+use Rattle.std.proofs.Common.{◌≡◌, ℕ, ◌+◌, ◌^◌, ◌<◌, ◌≤◌, ◌&&◌, Bool, true, false, List, [], ◌∷◌, length, drop, get_or, arith, lit<, sym, ap, ◌∙◌}
 use Rattle.std.proofs.Math.Bool.{and_assoc}
 use Rattle.std.proofs.lemmas.Bool.{le-leb}
 use Rattle.std.proofs.lemmas.Fmt.{length-decimal-le_wide}
@@ -16,10 +16,6 @@ narrow_few n h =
     let wide : n < 10 ^ 64 = omega (arith, h, most) in
     le-leb (length (decimal_text n)) most_digits (omega (arith, ap length (decimal_is_std n wide), length-decimal-le_wide 64 n (omega arith) wide wide))
 
-with_true : (a : Bool) → (a && true) ≡ a
-with_true true = refl
-with_true false = refl
-
 module _ {T : Type 0} (test : T → Bool) (are : List T → Bool) (none : are [] ≡ true) (more : (x : T) (xs : List T) → are (x ∷ xs) ≡ (test x && are xs)) where
   -- all items pass where those before item i do and those from it on do
   abbrev pub IsTested : List T → ℕ → Bool → Type 0
@@ -32,4 +28,5 @@ module _ {T : Type 0} (test : T → Bool) (are : List T → Bool) (none : are []
       ∙ ap (λ b. all && (b && rest)) (sym is) ∙ sym (and_assoc all here rest) ∙ ap (λ b. b && rest) (sym joined)
 
   pub tested_all : (xs : List T) (i : ℕ) (all : Bool) → length xs ≤ i → IsTested xs i all → all ≡ are xs
-  tested_all xs i all over h = sym (h ∙ ap (λ l. all && are l) (drop_all i xs over) ∙ ap (λ b. all && b) none ∙ with_true all)
+  tested_all xs i true over h = sym (h ∙ ap are (drop_all i xs over) ∙ none)
+  tested_all xs i false over h = sym h
