@@ -32,8 +32,6 @@ use Rattle.rq_engine.specs.Halts.{stop_halt}
 use Rattle.rq_engine.specs.PathHalts.{path_halt}
 use Rattle.rq_engine.specs.Paths.{HasPathCause, IsPathFitOf, IsPathProblem, first_penalised}
 use Rattle.rq_engine.specs.Stops.{most}
-use Rattle.report_text.specs.declared.report.Refusal.TheVariants.{Dependent}
-use Rattle.report_text.specs.declared.report.Halt.TheVariants.{OutOfMemory, PivotLimit, Overflow}
 
 -- the first penalised column is one of them, or the end
 pub first_within : (plain : PlainInput) → HasRows plain.input → first_penalised plain.intercept ≤ plain.input.problem.columns
