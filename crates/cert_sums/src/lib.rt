@@ -15,7 +15,7 @@
 //! let table = whole_table(alloc, &cert.problem);
 //!
 //! match self.table {
-//!     Some(table) => duals_balance(alloc, WholeProblem { problem, table }, segment),
+//!     Some(table) => duals_balance(self.alloc, WholeProblem { problem: self.problem, table }, segment),
 //!     None => false,
 //! }
 //! ```

@@ -7,11 +7,11 @@
 //!
 //! `rq_engine` reads and `report_text` writes so:
 //! ```text
-//! match read_cert(alloc, bytes) {
-//!     Ok(cert) => Ok(cert),
-//!     Err(CertFault::OutOfMemory) => Err(Halt::OutOfMemory),
-//!     Err(fault) => Err(Halt::Refused(Refusal::Certificate(fault))),
-//! }
+//! let cert = match read_cert(alloc, bytes) {
+//!     Ok(cert) => cert,
+//!     Err(CertFault::OutOfMemory) => return Err(Halt::OutOfMemory),
+//!     Err(fault) => return Err(Halt::Refused(Refusal::Certificate(fault))),
+//! };
 //!
 //! Report::Certificate(cert) => return write_cert(alloc, cert),
 //! ```
