@@ -1,5 +1,6 @@
 //! Conditions 2 and 4 to 8, by whole numbers first: that what these show is `true` says that the tests are, and `false`
-//! says nothing. Of conditions 6 to 8 a run of segments is tested as one, by sums that go on from each segment to the next; where that isn't enough,
+//! says nothing. Of conditions 6 to 8 a run of segments is tested as one, by sums that go on from each segment to the next;
+//! where that isn't enough,
 //! each condition is tested apart, segment by segment.
 
 ghost use Rattle.std.specs.Prelude.{◌≡◌, ◌≤◌, ◌<◌, ◌+◌, ◌^◌, ℕ, IsTrue, cond, length};

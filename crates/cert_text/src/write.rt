@@ -99,7 +99,8 @@ fn bytes_of(alloc: Global, cert: &Cert) -> Result<Vec<u8>, AllocError>
 }
 
 /// The text of a certificate: one JSON object on a line, with its keys in the order of their bytes and its
-/// fractions as canonical number text. Where a number of a segment or an interval is wider than 127 bits it is of version 3; else of version 2
+/// fractions as canonical number text. Where a number of a segment or an interval is wider than 127 bits it is of version 3;
+/// else of version 2
 /// where the certificate is chained, and of version 1 where it isn't. Where the certificate is within the limits of `read_cert`, the text
 /// is read as that certificate. It refuses only for memory.
 pub fn write_cert(alloc: Global, cert: &Cert) -> Result<Vec<u8>, OutOfMemory>

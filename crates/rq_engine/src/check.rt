@@ -12,7 +12,8 @@ use std::thread::Threads;
 
 /// The certificate that the bytes are, if all its conditions are true.
 ///
-/// `Refused` is the first fault of the bytes as a certificate, and `Rejected` has the first test that is false. `OutOfMemory` may come at any
+/// `Refused` is the first fault of the bytes as a certificate, and `Rejected` has the first test that is false. `OutOfMemory`
+/// may come at any
 /// step, and no other halt comes. The jobs of `check` pass the gate.
 pub(crate) fn check_bytes<R: Threads + Sync, G: Gate>(
     rt: &R,
