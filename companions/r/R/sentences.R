@@ -54,7 +54,7 @@ fault_sentences <- c(
     "solver: Dependent" = "The columns are linearly dependent: times these numbers they add up to 0 in every record. Leave out one of those whose number isn't 0.",
     "solver: PivotLimit" = "The simplex algorithm isn't done after so many pivots. Allow more by --pivots, to 10,000,000, or fit a smaller range.",
     "solver: Overflow" = "A number needs more than 127 bits on the way to the report, though the fit exists. See 'When a run ends with status 7' in the manual: mostly, round columns of long decimals.",
-    "certificate: CertTooLong" = "The certificate has more than 2^26 bytes, or more than 2^30 rows times segments. Certify a smaller range.",
+    "certificate: CertTooLong" = "The certificate has more than 2^26 bytes, more than 2^30 rows times segments, or a number of more than 65,536 digits. Certify a smaller range, or shorter columns.",
     "certificate: NotJson" = "The input is no JSON. Hand in what certify has written, whole.",
     "certificate: Shape" = "The certificate has something else at this path than there should be. Hand in what certify has written, unchanged.",
     "certificate: Version" = "The certificate has another version than 1, 2 and 3. Take a program that knows this version.",
