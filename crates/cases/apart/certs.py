@@ -53,13 +53,19 @@ def verdict(text):
 
 
 def reading(text):
-    """Whether the checker reads a text, and where it names the place of a number that is none, that."""
+    """Whether the checker reads a text, and where a number is none, or one of the problem has more than 127 bits, its place."""
     try:
-        quantreg_check.certificate(json.loads(text))
+        cert = quantreg_check.certificate(json.loads(text))
     except (ValueError, RecursionError) as error:
-        named = re.fullmatch(r"(\S+) is no long number", str(error))
+        named = re.fullmatch(r"(\S+) is no (long )?number", str(error))
         return f"Number {named[1]}" if named else "not read"
-    return "read"
+    wide = (f"Number /rows/{i}/{key}" for i, row in enumerate(cert["rows"]) for key in sorted(row) if key != "x" and is_wide(row[key]))
+    return next(wide, "read")
+
+
+def is_wide(number):
+    return max(map(abs, number.as_integer_ratio())) >= 2**127
+
 
 
 # ---- certificates of long numbers
