@@ -14,7 +14,7 @@ close_to <- function(word, known) {
 
 # The word of the formula at an offset, which counts bytes from 0.
 word_at <- function(formula, offset) {
-    rest <- rawToChar(utils::tail(charToRaw(enc2utf8(deparse1(formula))), -as.integer(offset)))
+    rest <- rawToChar(utils::tail(charToRaw(enc2utf8(formula)), -as.integer(offset)))
     found <- regmatches(rest, regexpr("^(`[^`]*`|[\\w.]+|.)", rest, perl = TRUE))
     gsub("`", "", c(found, "")[1])
 }
@@ -31,12 +31,12 @@ odd_cells <- function(column) {
 }
 
 unknown_name_advice <- function(fault, model) {
-    word <- word_at(model$formula, fault$fields$offset)
-    paste0("There is no column '", word, "'", close_to(word, names(model$data)))
+    word <- word_at(model$asked, fault$fields$offset)
+    paste0("There is no column '", word, "'", close_to(word, model$known))
 }
 
 syntax_advice <- function(fault, model) {
-    paste0("'", word_at(model$formula, fault$fields$offset), "' can't stand there: ", deparse1(model$formula),
+    paste0("'", word_at(model$asked, fault$fields$offset), "' can't stand there: ", model$asked,
         "; a formula has + - : * ^ . ( ), factor(), I(), offset() and qss()")
 }
 
@@ -49,9 +49,8 @@ factor_advice <- function(fault, model) {
 }
 
 no_rows_advice <- function(fault, model) {
-    used <- used_names(model$formula, model$data, model$weights)
-    gaps <- vapply(model$data[used], function(column) sum(is.na(column)), 0L)
-    paste("No record has all cells. Missing are", paste0(gaps[gaps > 0], " of ", used[gaps > 0], collapse = ", "))
+    gaps <- vapply(model$data, function(column) sum(is.na(column)), 0L)
+    paste("No record has all cells. Missing are", paste0(gaps[gaps > 0], " of ", names(gaps)[gaps > 0], collapse = ", "))
 }
 
 dependent_advice <- function(fault, model) {
@@ -64,15 +63,14 @@ dependent_advice <- function(fault, model) {
 advice_by_name <- list(
     UnknownName = unknown_name_advice, Syntax = syntax_advice, TooManyColumns = factor_advice, NoRows = no_rows_advice,
     Dependent = dependent_advice, Overflow = function(fault, model) overflow_advice,
-    UnknownWeights = function(fault, model) paste0("There is no column '", model$weights, "' for the weights", close_to(model$weights, names(model$data))),
-    ResponseNotNumeric = function(fault, model) paste("The response is no column of numbers; it has", odd_cells(model$data[[deparse1(model$formula[[2]])]])),
-    WeightNotNumeric = function(fault, model) paste("The weights are no column of numbers; it has", odd_cells(model$data[[model$weights]])),
+    ResponseNotNumeric = function(fault, model) paste("The response is no column of numbers; it has", odd_cells(model$data[[model$response]])),
+    WeightNotNumeric = function(fault, model) paste("The weights are no column of numbers; it has", odd_cells(model$data[[model$weights_column]])),
     ArithNotNumeric = function(fault, model) paste0(fault$fields$name, " is no column of numbers; it has ", odd_cells(model$data[[fault$fields$name]])),
     PivotLimit = function(fault, model) "pivots = gives a greater limit, to 10,000,000.",
     BadRange = function(fault, model) "A quantile is from 0 to 1, lo is not above hi, and a lambda is above 0.",
     BadNumber = function(fault, model) paste("The option", fault$fields$option, "is no such number."),
     NoSuchColumn = function(fault, model) "Columns are counted from 1, as in the names of a fit, and the last one is their number.",
-    NothingToPredict = function(fault, model) paste0("A record to predict has NA as its ", deparse1(model$formula[[2]]), " and all other cells that are used.")
+    NothingToPredict = function(fault, model) paste0("A record to predict has NA as its ", label_of(model$formula[[2]]), " and all other cells that are used.")
 )
 
 # What to say of a fault over a model: by its names, or what the manual says of the line; nothing where there is no line.

@@ -1,0 +1,199 @@
+# Calls as a user of R writes them, beside R's own answer: rq's coefficients or, where rq takes no such argument, what rq.wfit makes of lm's design.
+library(quantreg.exact)
+
+if (!nzchar(Sys.getenv("QUANTREG"))) {
+    cat("skipped: fits by the program, which QUANTREG doesn't name\n")
+    quit(status = 0)
+}
+if (!requireNamespace("quantreg", quietly = TRUE)) {
+    cat("skipped: calls beside rq, for R has no package quantreg\n")
+    quit(status = 0)
+}
+rq <- quantreg::rq
+fault_of <- function(call) tryCatch({ call; "no error" }, error = conditionMessage)
+says <- function(pattern, call) {
+    told <- fault_of(call)
+    if (!grepl(pattern, told, fixed = TRUE)) stop("not '", pattern, "' but '", told, "'", call. = FALSE)
+}
+warned <- function(call) tryCatch({ call; "" }, warning = conditionMessage)
+
+# Both have the same names in the same order, and the same coefficients or, where the fit isn't unique, the same loss: that of R's design.
+agrees <- function(ours, theirs, x = theirs$x, y = theirs$y, weight = 1, tau = 0.5) {
+    stopifnot(identical(names(coef(ours)), names(theirs)))
+    far <- max(abs(coef(ours) - theirs) / pmax(1, abs(theirs)))
+    loss <- function(beta) sum(weight * (y - x %*% beta) * (tau - (y - x %*% beta < 0)))
+    if (far > 1e-6 && (isTRUE(is_unique(ours)) || abs(loss(coef(ours)) - loss(theirs)) > 1e-8 * loss(theirs))) {
+        stop(deparse1(ours$call), " has ", paste(format(coef(ours)), collapse = " "), " and not ", paste(format(theirs), collapse = " "), call. = FALSE)
+    }
+}
+
+# The fit of a call beside rq's by the design and the response that lm makes of the same call.
+like_lm <- function(..., tau = 0.5, digits = NULL) {
+    ours <- suppressWarnings(rq_exact(..., tau = tau, digits = digits))
+    words <- list(...)
+    lm_words <- words[setdiff(names(words), "program")]
+    model <- suppressWarnings(do.call(lm, c(lm_words, list(x = TRUE, y = TRUE))))
+    y <- model$y - if (is.null(model$offset)) 0 else model$offset
+    weight <- if (is.null(model$weights)) rep(1, length(y)) else model$weights
+    theirs <- suppressWarnings(quantreg::rq.wfit(model$x, y, tau, weight)$coefficients)
+    agrees(ours, theirs, model$x, y, weight, tau)
+    invisible(ours)
+}
+
+# Weights, subsets and offsets are looked up in the data, and then where the formula was made; never is a global one taken for a column.
+D <- transform(cars, w = rep(1:5, 10), z = speed / 2)
+w <- rep(1, 50)
+agrees(rq_exact(dist ~ speed, D, weights = w), coef(rq(dist ~ speed, data = D, weights = w)))
+stopifnot(!isTRUE(all.equal(coef(rq_exact(dist ~ speed, D, weights = w)), coef(rq_exact(dist ~ speed, D)))))
+agrees(rq_exact(dist ~ speed, D, weights = "w"), coef(rq(dist ~ speed, data = D, weights = w)))
+agrees(rq_exact(dist ~ speed, D, weights = w^2 + 1), coef(rq(dist ~ speed, data = D, weights = w^2 + 1)))
+outer <- function() {
+    heavy <- rep(c(1, 4), 25)
+    rq_exact(dist ~ speed, D, weights = heavy)
+}
+agrees(outer(), coef(rq(dist ~ speed, data = D, weights = rep(c(1, 4), 25))))
+says("object 'nowhere' not found", rq_exact(dist ~ speed, D, weights = nowhere))
+says("did you mean 'z'", rq_exact(dist ~ speed, D, weights = "zz"))
+agrees(rq_exact(dist ~ speed, D, subset = speed > 10), coef(rq(dist ~ speed, data = D, subset = speed > 10)))
+agrees(rq_exact(dist ~ speed, D, subset = -(1:5), weights = w), coef(rq(dist ~ speed, data = D, subset = -(1:5), weights = w)))
+stopifnot(identical(names(residuals(rq_exact(dist ~ speed, D, subset = speed > 20))), names(residuals(lm(dist ~ speed, D, subset = speed > 20)))))
+offset_fit <- rq_exact(dist ~ speed, D, offset = 2 * z)
+agrees(offset_fit, coef(rq(I(dist - 2 * z) ~ speed, data = D)))
+stopifnot(all.equal(predict(offset_fit, data.frame(speed = 10, z = c(5, 7))), predict(rq(I(dist - 2 * z) ~ speed, data = D), data.frame(speed = c(10, 10))) + c(10, 14)))
+agrees(rq_exact(dist ~ offset(z) + speed, D, offset = z), coef(rq(I(dist - 2 * z) ~ speed, data = D)))
+says("subset takes no record", rq_exact(dist ~ speed, D, subset = speed > 100))
+# Each job takes them.
+stopifnot(identical(
+    suppressWarnings(ranks_exact(dist ~ speed, D, subset = speed > 15, weights = w)$exact),
+    suppressWarnings(ranks_exact(dist ~ speed, D[D$speed > 15, ], weights = "w")$exact)
+))
+both <- compare_rq(dist ~ speed, D, c(0.25, 0.75), weights = w, subset = speed > 5)
+stopifnot(both$summary$verdict == "same", both$fit$records == sum(D$speed > 5))
+
+# Missing cells.
+air <- transform(airquality, Month = factor(Month))
+for (rule in list(na.omit, na.exclude)) {
+    ours <- rq_exact(Ozone ~ Wind + Month, air, na.action = rule)
+    theirs <- lm(Ozone ~ Wind + Month, air, na.action = rule)
+    stopifnot(identical(names(residuals(ours)), names(residuals(theirs))), identical(is.na(fitted(ours)), is.na(fitted(theirs))))
+}
+says("missing values in object", rq_exact(Ozone ~ Wind, air, na.action = na.fail))
+says("missing values in object", lm(Ozone ~ Wind, air, na.action = na.fail))
+says("na.action is", rq_exact(Ozone ~ Wind, air, na.action = na.pass))
+says("missing values in object", { old <- options(na.action = "na.fail"); tryCatch(rq_exact(Ozone ~ Wind, air), finally = options(old)) })
+
+# Contrasts: those of a factor, of the session, of the formula and of the call.
+breaks <- warpbreaks
+contrasts(breaks$tension) <- contr.sum(3)
+like_lm(breaks ~ tension, breaks)
+like_lm(breaks ~ wool * tension, breaks)
+like_lm(breaks ~ C(tension, contr.sum), warpbreaks)
+like_lm(breaks ~ wool + C(tension, contr.helmert), warpbreaks)
+for (set in list(c("contr.sum", "contr.poly"), c("contr.helmert", "contr.poly"), c("contr.SAS", "contr.poly"))) {
+    old <- options(contrasts = set)
+    like_lm(breaks ~ wool * tension, warpbreaks)
+    options(old)
+}
+like_lm(breaks ~ wool + tension, warpbreaks, contrasts = list(tension = "contr.sum"))
+like_lm(breaks ~ wool + tension, warpbreaks, contrasts = list(wool = contr.helmert, tension = contr.sum))
+like_lm(breaks ~ tension, warpbreaks, contrasts = list(tension = contr.treatment(3, base = 2)))
+summed <- rq_exact(breaks ~ wool * tension, warpbreaks, contrasts = "sum")
+agrees(summed, coef(suppressWarnings(rq(breaks ~ wool * tension, data = warpbreaks, contrasts = list(wool = "contr.sum", tension = "contr.sum")))),
+    model.matrix(breaks ~ wool * tension, warpbreaks, list(wool = "contr.sum", tension = "contr.sum")), warpbreaks$breaks)
+ordered_fit <- like_lm(breaks ~ ordered(tension) + wool, warpbreaks)
+stopifnot(any(grepl("ordered(tension) by contr.poly", capture.output(print(ordered_fit)), fixed = TRUE)))
+stopifnot(all.equal(unname(predict(ordered_fit, warpbreaks[c(1, 30, 54), ])), unname(fitted(ordered_fit)[c(1, 30, 54)])))
+says("beside a smooth all factors have the same contrasts", rq_exact(breaks ~ qss(x, 1) + wool + tension, transform(breaks, x = seq_along(breaks))))
+# A term that R codes otherwise than the program does has R's columns.
+like_lm(len ~ dose:supp + dose:factor(dose > 1), ToothGrowth)
+like_lm(breaks ~ wool / tension, warpbreaks)
+like_lm(breaks ~ tension %in% wool, warpbreaks)
+like_lm(breaks ~ 0 + wool:tension, warpbreaks)
+
+# A level "NA", an empty one, and one of blanks are levels in R; nothing but NA is missing.
+states <- data.frame(y = c(3, 1, 4, 1, 5, 9, 2, 6), f = factor(c("NA", "ZA", "NA", "", "BW", "ZA", "", "BW")))
+for (table in list(states, transform(states, f = as.character(f)), transform(states, f = factor(f, levels = c("ZA", "NA", "BW", ""))))) {
+    stopifnot(like_lm(y ~ f, table)$records == 8)
+}
+like_lm(y ~ f, transform(states, f = factor(paste0(f, " "))))
+# Numbers as levels keep R's order.
+tens <- data.frame(y = c(3, 1, 4, 1, 5, 9, 2, 6, 5, 3), x = c(9, 10, 100, 9, 10, 100, 2, 2, -1, -1))
+like_lm(y ~ factor(x), tens)
+like_lm(y ~ f, transform(tens, f = factor(x)))
+like_lm(y ~ factor(f), transform(tens, f = factor(x, levels = c(100, 9, 10, 2, -1))))
+like_lm(y ~ f, transform(tens, f = as.character(x)))
+old <- options(contrasts = c("contr.helmert", "contr.poly"))
+like_lm(y ~ factor(x), tens)
+options(old)
+
+# Arguments that have no answer are errors, and the ones of rq that say what is done anyway are taken.
+fit <- rq_exact(dist ~ speed, cars)
+two <- rq_exact(dist ~ speed, cars, c(0.25, 0.75))
+says("se = \"boot\" has no answer", summary(fit, se = "boot"))
+says("summary takes no argument hs =", summary(fit, hs = TRUE))
+stopifnot(identical(coef(summary(fit, se = "rank")), coef(summary(fit))))
+says("interval = \"confidence\" has no answer", predict(fit, cars, interval = "confidence"))
+says("predict takes no argument level =", predict(fit, cars, level = 0.9))
+says("no test = \"Wald\"", anova(fit, rq_exact(dist ~ 1, cars), test = "Wald"))
+says("no score = \"tau\"", anova(fit, rq_exact(dist ~ 1, cars), score = "tau"))
+says("at several quantiles (0.25, 0.75)", anova(rq_exact(dist ~ speed, cars, 0.25), rq_exact(dist ~ speed, cars, 0.75)))
+says("at several quantiles", anova(two))
+says("no argument joint =", anova(fit, rq_exact(dist ~ 1, cars), joint = FALSE))
+for (call in list(quote(coef(fit, digits = 3)), quote(residuals(fit, type = "deviance")), quote(fitted(fit, tau = 1)), quote(confint(fit, se = "iid")))) {
+    stopifnot(fault_of(eval(call)) != "no error")
+}
+says("unused argument (method = \"fn\")", rq_exact(dist ~ speed, cars, method = "fn"))
+
+# What is_unique and other_coef say agree, and other coefficients have the same loss.
+even <- rq_exact(y ~ 1, data.frame(y = c(1, 2, 4, 8)), c(0.25, 0.3, 0.5))
+stopifnot(identical(is_unique(even), c(FALSE, TRUE, FALSE)), identical(is.na(unname(drop(other_coef(even)))), c(FALSE, TRUE, FALSE)))
+# The median of 1, 2, 4, 8 is any number from 2 to 4, and the lower quartile any from 1 to 2.
+stopifnot(setequal(c(coef(even)[3], other_coef(even)[3]), c(2, 4)), setequal(c(coef(even)[1], other_coef(even)[1]), c(1, 2)))
+for (case in list(list(eruptions ~ waiting, faithful), list(weight ~ feed, chickwts), list(extra ~ group, sleep), list(breaks ~ wool, warpbreaks))) {
+    found <- rq_exact(case[[1]], case[[2]])
+    other <- other_coef(found)
+    stopifnot(identical(anyNA(other), !isFALSE(is_unique(found))))
+    if (!anyNA(other)) {
+        residuals <- model.response(model.frame(case[[1]], case[[2]])) - model.matrix(case[[1]], case[[2]]) %*% other
+        stopifnot(all.equal(sum(abs(residuals)) / 2, found$loss), !isTRUE(all.equal(other, coef(found))))
+    }
+}
+
+# Names, and messages on what is no table.
+stopifnot(identical(names(coef(rq_exact(dist ~ 0 + speed, cars))), names(coef(rq(dist ~ 0 + speed, data = cars)))))
+stopifnot(identical(dimnames(coef(summary(rq_exact(dist ~ 0 + speed, cars)))), dimnames(coef(suppressWarnings(summary(rq(dist ~ 0 + speed, data = cars), se = "rank"))))))
+theirs <- coef(suppressWarnings(summary(rq(stack.loss ~ ., data = stackloss), se = "rank", interp = FALSE)))
+ours <- coef(summary(rq_exact(stack.loss ~ ., stackloss)))
+stopifnot(is.matrix(ours), identical(rownames(ours), rownames(theirs)), all.equal(ours[, 1], theirs[, 1]), is.list(coef(summary(two))), length(coef(summary(two))) == 2)
+stopifnot(any(grepl("of the level 90 % by Student's with 48 degrees of freedom, with the critical value", capture.output(print(summary(fit))))))
+stopifnot(any(grepl("Rank intervals with the critical value 46/17", capture.output(print(summary(fit, crit = "46/17"))))))
+says("the table is empty: it has 0 records", rq_exact(dist ~ speed, cars[0, ]))
+says("~speed has no response", rq_exact(~speed, cars))
+says("read the file first, as read.csv(\"cars.csv\")", rq_exact(dist ~ speed, "cars.csv"))
+says("data is a matrix", rq_exact(dist ~ speed, as.matrix(cars)))
+says("There is no column 'dost'; did you mean 'dist'?", rq_exact(dost ~ speed, cars))
+says("There is no column 'dost'; did you mean 'dist'?", rq_exact(log(dost) ~ speed, cars))
+says("There is no column 'sped'; did you mean 'speed'?", rq_exact(dist ~ log(sped), cars))
+says("the new records have no column 'speed'", predict(fit, data.frame(sped = 1)))
+
+# Names that the program's formulas can't have.
+odd <- data.frame(`größe` = c(3, 1, 4, 1, 5, 9, 2, 6), `my x` = c(2, 7, 1, 8, 2, 8, 1, 9), `2nd` = c(1, 6, 1, 8, 0, 3, 3, 9), `a"b\\c` = c(5, 7, 7, 2, 1, 5, 6, 6),
+    weiß = factor(rep(c("ä", "ö", "ü", "<1.1>"), 2)), `my w` = rep(1:2, 4), check.names = FALSE)
+like_lm(größe ~ ., odd[1:4])
+like_lm(größe ~ `my x` * weiß, odd)
+like_lm(größe ~ `2nd` + I(2 * `my x`) + I(`my x`^2), odd)
+like_lm(größe ~ `my x`:`2nd` + offset(`my w`), odd)
+stopifnot(identical(coef(rq_exact(größe ~ `my x`, odd, weights = "my w")), coef(rq_exact(größe ~ `my x`, odd, weights = `my w`))))
+agrees(rq_exact(größe ~ `my x`, odd, weights = `my w`), coef(rq(größe ~ `my x`, data = odd, weights = `my w`)))
+says("'my y'", rq_exact(`my y` ~ `my x`, odd))
+says("my x is no column of numbers; it has \"u\"", rq_exact(größe ~ offset(`my x`), transform(odd, `my x` = c("u", 2:8), check.names = FALSE)))
+
+# What the program's formulas lack is worked out by R, with a note, and the names are R's; digits rounds such columns.
+like_lm(dist ~ scale(speed), cars)
+like_lm(dist ~ I(1 / speed), cars)
+like_lm(dist ~ I(speed > 15), cars)
+like_lm(dist ~ speed**2, cars)
+like_lm(log(dist) ~ sqrt(speed) + speed, cars)
+like_lm(dist ~ poly(speed, 2), cars, digits = 6) -> rounded_fit
+stopifnot(any(grepl("poly(speed, 2) to 6 decimals, moved by", capture.output(print(rounded_fit)), fixed = TRUE)))
+stopifnot(any(grepl("worked out by R, as columns of 15 digits: log(dist), sqrt(speed)", capture.output(print(rq_exact(log(dist) ~ sqrt(speed), cars))), fixed = TRUE)))
