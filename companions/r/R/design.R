@@ -2,13 +2,13 @@
 
 contrast_names <- c(treatment = "contr.treatment", sas = "contr.SAS", sum = "contr.sum", helmert = "contr.helmert")
 
-# The names of columns with each number of an arithmetic by its value, for the program writes 0.5 as 1/2.
+# The names of columns with each number of an arithmetic by its value, for the program writes 0.5 as 1/2, and without R's quotes and escapes.
 by_value <- function(names) {
     number <- "(?<![A-Za-z0-9._])([0-9]+/[0-9]+|([0-9]+\\.?[0-9]*|\\.[0-9]+)([eE][+-]?[0-9]+)?)"
     computed <- grepl("I(", names, fixed = TRUE) | grepl("factor(", names, fixed = TRUE)
     found <- gregexpr(number, names[computed], perl = TRUE)
     regmatches(names[computed], found) <- lapply(regmatches(names[computed], found), function(it) format_values(fraction_value(it)))
-    gsub("`", "", names)
+    gsub("[`\\\\]", "", names)
 }
 
 format_values <- function(values) vapply(values, format, "", digits = 15)
@@ -95,6 +95,8 @@ is_coded_alike <- function(terms, frame) {
 # otherwise, it is handed the columns of that design as they are.
 with_design <- function(model, frame, weight, contrasts, predicts) {
     if (is.null(weight)) weight <- rep(1, nrow(frame))
+    is_text <- vapply(frame, is.character, NA)
+    frame[is_text] <- lapply(frame[is_text], factor)
     for (name in intersect(names(model$decimals), names(frame))) frame[[name]] <- rounded(frame[[name]], model$decimals[[name]])
     is_whole <- stats::complete.cases(if (predicts) frame[-1] else frame) & !is.na(weight)
     gaps <- sum(!is_whole)

@@ -74,10 +74,7 @@ record_count <- function(formula, data) if (is.null(data)) NROW(eval(formula[[2]
 frame_of <- function(formula, data, rows, offset) {
     words <- list(formula, data = if (is.null(data)) environment(formula) else data, subset = rows, na.action = stats::na.pass, drop.unused.levels = FALSE)
     if (!is.null(offset)) words$offset <- offset
-    frame <- do.call(stats::model.frame, words)
-    is_text <- vapply(frame, is.character, NA)
-    frame[is_text] <- lapply(frame[is_text], factor)
-    frame
+    do.call(stats::model.frame, words)
 }
 
 # A frame without the levels that none of its records has, as model.frame leaves them out.
@@ -145,7 +142,7 @@ model_of <- function(formula, data, by = list(), contrasts = NULL, pivots = NULL
     if (!length(told$table)) told$table <- list(x = rep(NA, length(rows)))
     model <- list(
         formula = formula, asked = told$asked, response = told$response, data = as.data.frame(told$table, optional = TRUE, stringsAsFactors = FALSE),
-        labels = told$labels, known = union(names(data), all.vars(full)), codes = list(), weights = weights$label, weights_column = weights$name,
+        labels = told$labels, known = setdiff(names(data), ""), lone_column = if (NCOL(data) == 1) data, codes = list(), weights = weights$label, weights_column = weights$name,
         contrasts = "treatment", decimals = told$decimals, worked_out = told$worked_out, computed = computed_note(told, digits), digits = digits,
         na_rule = rule, offset_call = by$offset_call, is_smooth = smooth, design = NULL, pivots_limit = pivots, program = program
     )
@@ -172,9 +169,9 @@ data_units <- function(formula, data) {
 variables_of <- function(formula, data, records) {
     found <- lapply(stats::setNames(nm = all.vars(formula[[3]])), function(name) {
         values <- if (name %in% names(data)) data[[name]] else get0(name, environment(formula))
-        if (is.atomic(values) && is.null(dim(values)) && length(values) >= max(records)) values[records]
+        if (is.atomic(values) && is.null(dim(values)) && length(values) >= max(0, records)) values[records]
     })
-    if (!any(vapply(found, is.null, NA))) as.data.frame(found, optional = TRUE)
+    if (length(records) && !any(vapply(found, is.null, NA))) as.data.frame(found, optional = TRUE)
 }
 
 # A formula in which the columns of the table stand in the place of `.`.
@@ -201,7 +198,7 @@ unknown_names <- function(fault, formula, data) {
 
 # A table as it is handed out: the codes of levels in their places.
 table_for <- function(model, data = model$data) {
-    for (name in names(model$codes)) data[[name]] <- unname(model$codes[[name]][as.character(data[[name]])])
+    for (name in names(model$codes)) data[[name]] <- unname(model$codes[[name]])[match(data[[name]], names(model$codes[[name]]))]
     data
 }
 
@@ -229,7 +226,7 @@ lines_of <- function(model, job, first = list(), last = list(), data = model$dat
     shared <- list(weights = model$weights_column, contrasts = model$contrasts, pivots = model$pivots_limit)
     words <- fit_words(job, model$asked, c(first, shared, last))
     tryCatch(run_quantreg(words, table_for(model, data), model$program), quantreg_error = function(fault) {
-        advice <- advice_of(fault, model)
+        advice <- advice_of(fault, c(model, list(words = words)))
         fault$line <- with_levels(fault$line, model)
         fault$fields <- lapply(fault$fields, with_levels, model)
         fault$message <- paste(c(with_levels(fault$message, model), with_levels(advice, model)), collapse = "\n")
