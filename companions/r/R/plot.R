@@ -155,12 +155,13 @@ plot_fit <- function(fit, tau = c(0.05, 0.1, 0.25, 0.5, 0.75, 0.9, 0.95), units 
     groups <- unique(variables[!is_number])
     if (!length(x)) return(draw_levels(fit, groups, variables, y, lines_at, at, colours, response, ...))
     if (nrow(groups) > 12) stop("the factors of this fit have ", nrow(groups), " combinations: draw 12 at most", call. = FALSE)
-    if (is.null(mfrow)) mfrow <- grDevices::n2mfrow(max(1, nrow(groups)))
+    panels <- max(1, nrow(groups))
+    if (is.null(mfrow)) mfrow <- c(ceiling(panels / 2), min(panels, 2))
     old <- par(mfrow = mfrow, mar = c(4, 4.2, if (ncol(groups)) 2.5 else 1, 3.2))
     on.exit(par(old))
     across <- variables[[x]]
     grid <- seq(min(across), max(across), length.out = 201)
-    for (group in seq_len(max(1, nrow(groups)))) {
+    for (group in seq_len(panels)) {
         records <- stats::setNames(data.frame(grid), x)
         shown <- rep(TRUE, length(y))
         for (name in names(groups)) {
@@ -179,7 +180,7 @@ plot_fit <- function(fit, tau = c(0.05, 0.1, 0.25, 0.5, 0.75, 0.9, 0.95), units 
 
 # The quantile of each line at the right edge, moved apart where they would stand on each other.
 label_lines <- function(heights, at, colours) {
-    gap <- 1.1 * graphics::strheight("0", cex = 0.75)
+    gap <- 1.6 * graphics::strheight("0", cex = 0.75)
     mtext(format(at, trim = TRUE, drop0trailing = TRUE), side = 4, at = apart(heights, gap), col = colours, las = 1, line = 0.3, cex = 0.75 * par("cex"))
 }
 
