@@ -199,4 +199,50 @@ like_lm(log(dist) ~ sqrt(speed) + speed, cars)
 rounded_fit <- like_lm(dist ~ poly(speed, 2), cars, digits = 7)
 stopifnot(any(grepl("poly(speed, 2) to 7 decimals, moved by", capture.output(print(rounded_fit)), fixed = TRUE)))
 stopifnot(any(grepl("worked out by R, as columns of 15 digits: log(dist), sqrt(speed)", capture.output(print(rq_exact(log(dist) ~ sqrt(speed), cars))), fixed = TRUE)))
+# Predictions work such columns out by the knots and centres of the fit.
+library(splines)
+for (formula in list(dist ~ poly(speed, 2), dist ~ bs(speed, df = 4), dist ~ ns(speed, df = 3), dist ~ scale(speed), log(dist) ~ log(speed))) {
+    new <- data.frame(speed = c(5, 12.5, 24))
+    theirs <- suppressWarnings(rq(formula, 0.3, cars))
+    stopifnot(all.equal(predict(rq_exact(formula, cars, 0.3, digits = 7), new), predict(theirs, new), tolerance = 1e-4))
+}
+
+# Messages on a limit name it and what would fit.
+says("the program takes 16,384 at most: subset = sample(16385, 16384)", rq_exact(y ~ 1, data.frame(y = 1:16385)))
+long <- data.frame(y = c(1e30, 1e-30, 3.3e-9, 7), x = c(1e25, 1e-22, 3.1, 1 / 3))
+says("numerators and denominators of 38 digits", rq_exact(y ~ x, long))
+says("beside 1 column some 15 digits fit", rq_exact(y ~ x, long))
+says("The option tested is no such number", rank_test_exact(y ~ x, data.frame(y = 1:4, x = c(1, 3, 2, 2)), integer()))
+# A program that knows other options.
+other <- tempfile("program")
+writeLines(c("#!/bin/sh", "cat > /dev/null", "echo 'quantreg: usage: BadOption' >&2", "exit 2"), other)
+Sys.chmod(other, "755")
+says("doesn't know one of the options --formula, --lo, --hi, --contrasts: is it of another version?", rq_exact(dist ~ speed, cars, program = other))
+
+# Pictures: labels with units, labels that stand apart, what is left out, and something on each picture.
+inner <- asNamespace("quantreg.exact")
+measured <- cars
+attr(measured$dist, "units") <- "ft"
+attr(measured$speed, "units") <- "mph"
+curve <- rq_exact(dist ~ speed, measured, c(0.25, 0.5, 0.75))
+labels <- summary(curve)
+stopifnot(
+    identical(inner$axis_label(labels, "speed", labels$units), "ft per mph"), identical(inner$axis_label(labels, "(Intercept)", labels$units), "dist (ft)"),
+    identical(inner$axis_label(labels, "speed", NULL), "dist per unit of speed"), identical(inner$apart(c(3, 1, 1.5), 1), c(3, 1, 2)),
+    all.equal(labels$ols, coef(lm(dist ~ speed, cars))), grepl("^bars: rank intervals of the level 90 %", inner$bars_text(labels))
+)
+stopifnot(inherits(try(plot_fit(rq_exact(stack.loss ~ ., stackloss)), silent = TRUE), "try-error"))
+if (capabilities("png")) {
+    for (draw in list(
+        function() plot(rq_exact(dist ~ speed, cars, -1), alpha = 0.1, ols = TRUE), function() plot(labels), function() plot_fit(curve),
+        function() plot_fit(rq_exact(dist ~ speed + I(speed^2), cars, -1)), function() plot_fit(rq_exact(len ~ dose * supp, ToothGrowth)),
+        function() plot_fit(rq_exact(breaks ~ wool + tension, warpbreaks)), function() plot_fit(rq_exact(log(dist) ~ ns(speed, 3), cars, digits = 6))
+    )) {
+        file <- tempfile(fileext = ".png")
+        grDevices::png(file, 800, 600)
+        draw()
+        grDevices::dev.off()
+        stopifnot(file.size(file) > 3000)
+    }
+}
 cat("all of it holds\n")
