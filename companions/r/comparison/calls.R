@@ -66,7 +66,6 @@ compare_call <- function(call) {
     both[[1]] <- quote(compare_rq)
     both$tau <- taus
     verdicts <- suppressWarnings(eval(both))$summary$verdict
-    their_names <- sub("\\[.*", "", names(coef(theirs[[1]])))
     found <- vapply(seq_along(taus), function(at) {
         difference <- max(abs(coef(ours)[, at] - coef(theirs[[at]])) / pmax(1, abs(coef(theirs[[at]]))))
         if (!identical(ours$names, names(coef(theirs[[at]])))) return("other names")
@@ -77,12 +76,15 @@ compare_call <- function(call) {
     data.frame(call = gsub(" +", " ", deparse1(call)), records = ours$records, t(found), digits = if (is.null(digits)) "" else as.character(digits))
 }
 
+# A text in Markdown's marks of code, which backticks in it double.
+as_code <- function(text) ifelse(grepl("`", text, fixed = TRUE), paste("``", text, "``"), paste0("`", text, "`"))
+
 failing <- function(call) function(fault) data.frame(call = deparse1(call), records = NA, t(rep(sub("\n.*", "", conditionMessage(fault)), 3)), digits = "")
 rows <- do.call(rbind, lapply(calls, function(call) tryCatch(compare_call(call), error = failing(call))))
 found <- unlist(rows[c("X1", "X2", "X3")])
 text <- c(
     "| call | records | 1/4 | 1/2 | 3/4 |", "|---|---|---|---|---|",
-    sprintf("| `%s` | %s | %s | %s | %s |", rows$call, rows$records, rows$X1, rows$X2, rows$X3)
+    sprintf("| %s | %s | %s | %s | %s |", as_code(rows$call), rows$records, rows$X1, rows$X2, rows$X3)
 )
 file <- commandArgs(trailingOnly = TRUE)
 if (length(file)) writeLines(text, file[1])
