@@ -148,7 +148,6 @@ by_design <- function(model, x, all, predicts) {
     shown <- which(colnames(x) != "(Intercept)")
     names <- sprintf("<x%d>", shown)
     table <- as.data.frame(stats::setNames(lapply(shown, function(at) entries[, at]), names), optional = TRUE)
-    kept <- c(model$response, model$weights_column)
     offset <- stats::model.offset(all)
     response <- if (is_plain_name(model$response)) model$response else "<x0>"
     data <- stats::setNames(model$data[model$response], response)
