@@ -19,8 +19,9 @@ digits_in <- function(values) {
     nchar(format(ceiling(max(values)), scientific = FALSE)) + decimals
 }
 
-# So many digits a column of numbers may have beside how many columns so that most tables are answered: measured, as the manual of the package tells.
-digits_that_fit <- c(15, 15, 12, 9, 7, 6, 5, 4)
+# How many digits all columns may have, by the number of those beside the intercept, so that tables of random numbers are answered: as
+# bench/limits/digits.py measures it.
+digits_that_fit <- c(15, 12, 9, 7, 6, 5, 4, 4)
 
 # The column of a table that has the most digits, beside what fits.
 digits_told <- function(model) {
@@ -29,8 +30,8 @@ digits_told <- function(model) {
     if (!length(counts)) return(NULL)
     columns <- max(1, length(counts) - 1)
     name <- names(which.max(counts))
-    paste0("The column ", name, " has numbers of ", max(counts), " digits; beside ", columns, if (columns == 1) " column" else " columns",
-        " some ", digits_that_fit[min(columns, 8)], " digits fit.")
+    paste0("The column ", name, " has numbers of ", max(counts), " digits; in ", columns, if (columns == 1) " column" else " columns",
+        " of random numbers ", digits_that_fit[min(columns, 8)], " digits fit.")
 }
 
 # The question whether a known word was meant, where one is close.

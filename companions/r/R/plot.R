@@ -75,7 +75,7 @@ draw_panel <- function(name, label, tau, values, bars, is_process, trim, ols, ..
 draw_panels <- function(x, columns, bars, is_process, tau, beta, said, trim, mfrow, ols, units, ...) {
     if (is.null(mfrow)) mfrow <- c(ceiling(length(columns) / 2), min(length(columns), 2))
     if (length(ols)) said <- c(said, "dashed: least squares")
-    if (is_process && trim > 0) said <- c(said, paste0("from ", trim, " to ", 1 - trim, " alone, and trim = 0 draws all"))
+    if (is_process && trim > 0) said <- c(said, paste0("quantiles from ", trim, " to ", 1 - trim, " (trim = 0 draws all)"))
     old <- par(mfrow = mfrow, mar = c(4, 4.2, 2.5, 1), oma = c(if (length(said)) 2.6 else 0, 0, 0, 0))
     on.exit(par(old))
     units <- units_of(x, units)

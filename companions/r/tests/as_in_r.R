@@ -211,7 +211,7 @@ for (formula in list(dist ~ poly(speed, 2), dist ~ bs(speed, df = 4), dist ~ ns(
 says("the program takes 16,384 at most: subset = sample(16385, 16384)", rq_exact(y ~ 1, data.frame(y = 1:16385)))
 long <- data.frame(y = c(1e30, 1e-30, 3.3e-9, 7), x = c(1e25, 1e-22, 3.1, 1 / 3))
 says("numerators and denominators of 38 digits", rq_exact(y ~ x, long))
-says("beside 1 column some 15 digits fit", rq_exact(y ~ x, long))
+says("in 1 column of random numbers 15 digits fit", rq_exact(y ~ x, long))
 says("The option tested is no such number", rank_test_exact(y ~ x, data.frame(y = 1:4, x = c(1, 3, 2, 2)), integer()))
 # A program that knows other options.
 other <- tempfile("program")
