@@ -50,7 +50,7 @@ rq_exact <- function(formula, data = NULL, tau = 0.5, weights = NULL, contrasts 
 model_of_call <- function(call, caller, formula, data, contrasts, pivots, program, na.action, digits, predicts = FALSE) {
     formula <- stats::as.formula(formula, caller)
     data <- data_of(data)
-    model_of(formula, data, looked_up(call, formula, data), contrasts, pivots, program, na.action, digits, predicts)
+    model_of(formula, data, looked_up(call, formula, data, caller), contrasts, pivots, program, na.action, digits, predicts)
 }
 
 # A fit of a model and the parts of its reports.

@@ -28,10 +28,13 @@ codes_of <- function(levels, number) {
     stats::setNames(sprintf("<%d.%0*d>", number, nchar(length(levels)), seq_along(levels)), levels)
 }
 
-# The arguments of a call that are looked up in its table, and then where its formula was made, as in lm.
-looked_up <- function(call, formula, data) {
+# The arguments of a call that are looked up in its table, and then where its formula was made, as in lm; where R ends with an error then, in
+# the function that calls.
+looked_up <- function(call, formula, data, caller) {
     of <- function(name) {
-        found <- eval(call[[name]], data, environment(formula))
+        found <- tryCatch(eval(call[[name]], data, environment(formula)), error = function(fault) {
+            tryCatch(eval(call[[name]], data, caller), error = function(same) stop(conditionMessage(fault), call. = FALSE))
+        })
         # The name of a column stays one.
         if (name == "weights" && is.name(call[[name]]) && as.character(call[[name]]) %in% names(data)) as.character(call[[name]]) else found
     }

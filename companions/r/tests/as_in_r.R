@@ -51,6 +51,14 @@ outer <- function() {
     rq_exact(dist ~ speed, D, weights = heavy)
 }
 agrees(outer(), coef(rq(dist ~ speed, data = D, weights = rep(c(1, 4), 25))))
+# Where the formula was made elsewhere, and R finds no weights, those of the caller are taken.
+line <- dist ~ speed
+inside <- function() {
+    local_weights <- rep(c(1, 4), 25)
+    rq_exact(line, D, weights = local_weights)
+}
+stopifnot(identical(coef(inside()), coef(outer())))
+says("object 'local_weights' not found", (function() { local_weights <- 1; lm(line, D, weights = local_weights) })())
 says("object 'nowhere' not found", rq_exact(dist ~ speed, D, weights = nowhere))
 says("did you mean 'z'", rq_exact(dist ~ speed, D, weights = "zz"))
 agrees(rq_exact(dist ~ speed, D, subset = speed > 10), coef(rq(dist ~ speed, data = D, subset = speed > 10)))
