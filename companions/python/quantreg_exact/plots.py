@@ -7,9 +7,8 @@ from fractions import Fraction
 import matplotlib.pyplot as plt
 from matplotlib import colormaps
 
-from .designs import response_name
 from .fits import OfTable
-from .numbers import as_fraction
+from .numbers import as_place
 
 LINE, BAND, RUG = "#1f4e79", "#9ecae1", "#c0504d"
 # Up to so many breakpoints each has its own tick; beyond, their number in each hundredth of the range is drawn.
@@ -161,7 +160,7 @@ def _bands_text(report, level):
 
 def _line_taus(report, taus):
     if taus is not None:
-        return [as_fraction(tau) for tau in taus]
+        return [as_place(tau) for tau in taus]
     low, high = report.segments[0].lo, report.segments[-1].hi
     if low == high:
         return [low]
@@ -200,7 +199,7 @@ def plot_fit(fit, x=None, taus=None, *, units=None, width=6.4, height=4.6):
     axis.set_xlim(*ends)
     _label_lines(axis, labels)
     axis.set_xlabel(_named(units, x))
-    axis.set_ylabel(_named(units, response_name(fit.formula)))
+    axis.set_ylabel(_named(units, fit.response_name))
     return figure
 
 

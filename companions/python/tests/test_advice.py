@@ -41,24 +41,28 @@ class ByTheProgram(unittest.TestCase):
             ("y ~ `größe` + incme", "UnknownName", "there is no column 'incme'; did you mean 'income'?"),
             ("y ~ I(`grösse` + 1)", "UnknownName", "there is no column 'grösse'; did you mean 'größe'?"),
             ("y ~ zzz", "UnknownName", "there is no column 'zzz'"),
-            ("y ~ log(income)", "Syntax", "there is no function log( )"),
-            ("y ~ I(income / 2)", "Syntax", "'/' can't stand behind 'y ~ I(income'; there is no division"),
+            ("y ~ grösse", "UnknownName", "there is no column 'grösse'; did you mean 'größe'?"),
+            ("zzz ~ income", "UnknownName", "there is no column 'zzz'"),
+            ("y ~ income / 2", "Syntax", "'/' can't stand behind 'y ~ income'; there is no division of terms"),
             ("y ~ income +", "Syntax", "the formula ends where more should stand"),
-            ("~ income", "Syntax", "'~' can't stand at the beginning"),
+            ("~ income", "Syntax", "'~' can't stand at the beginning; a formula is as in 'y ~ x'"),
+            ("income", "Syntax", "the formula ends where more should stand; a formula is as in 'y ~ x'"),
         ]:
             self.told(name, wanted, fit, formula, TABLE, "1/2")
         self.assertNotIn("did you mean", fault_of(fit, "y ~ zzz", TABLE, "1/2").advice)
 
     def test_the_cells_and_levels_of_a_table(self):
-        texts = pandas.DataFrame({"y": ["1", "two", "3"], "x": [1, 2, 3], "w": ["1", "-", "2"]})
+        texts = pandas.DataFrame({"y": ["1", "two", "3"], "x": [1, 2, 3], "w": ["1", "-", "2"], "t": ["4", "9", "5"]})
         many = pandas.DataFrame({"y": range(150), "f": [f"t{it}" for it in range(150)]})
         for table, formula, options, name, wanted in [
             (texts, "y ~ x", {}, "ResponseNotNumeric", "the response y is no column of numbers: record 2 has 'two'"),
+            (texts, "t ~ x", {}, "ResponseNotNumeric", "the response t is no column of numbers: it has texts, as '4' in record 1; pandas.to_numeric makes"),
             (texts, "x ~ 1", {"weights": "w"}, "WeightNotNumeric", "the weights w are no column of numbers: record 2 has '-'"),
             (texts, "x ~ I(2*w)", {}, "ArithNotNumeric", "w is no column of numbers: record 2 has '-'"),
             (texts, "x ~ 1", {"weights": "v"}, "UnknownWeights", "there is no column 'v' for the weights"),
             (many, "y ~ f", {}, "TooManyColumns", "the factor f has 150 levels"),
             (TABLE.assign(f="a"), "y ~ f", {}, "OneLevel", "the factor f has one level among the records that are kept (in the table it has 'a')"),
+            (TABLE[:0], "y ~ income", {}, "NoRows", "the table has no records"),
             (TABLE.assign(income=None), "y ~ income", {}, "NoRows", "of 4 records none has all cells; missing are 4 of income"),
             (TABLE.assign(z=2 * TABLE.income), "y ~ income + z", {}, "Dependent", "-2 times column 2 plus 1 times column 3 is 0 in every record"),
         ]:
