@@ -6,6 +6,7 @@ The program's lines are fixed and count offsets, records and columns. Here the w
 import csv
 import difflib
 import io
+import math
 from fractions import Fraction
 
 from .designs import response_name, used_columns
@@ -28,10 +29,12 @@ JOBS = {
 }
 
 OVERFLOW = (
-    "A number outgrew the program's. Round columns of many digits, as `data.round(2)`, or write decimals as whole numbers of a smaller"
-    " unit; ask for a smaller range, or give a shorter critical value by `crit=`. The page 'When a run ends with"
+    "Round columns of many digits, as `data.round(2)`, and those that are worked out by `digits=`, or write decimals as whole numbers of a"
+    " smaller unit; ask for a smaller range, or give a shorter critical value by `crit=`. The page 'When a run ends with"
     " status 7' of docs/MANUAL.md has more."
 )
+# So many digits fit for so many columns beside the intercept, as bench/limits/README.md has them measured.
+FITTING_DIGITS = {1: 17, 2: 11, 3: 8, 4: 7, 6: 5, 8: 4, 10: 3}
 
 
 def close_to(word: str, known) -> str:
@@ -62,7 +65,7 @@ def of_model(fault: QuantregError, model, options: dict) -> str | None:
     if fault.group == "usage":
         return _of_options(fault, model, options)
     if fault.is_overflow:
-        return OVERFLOW
+        return f"A number outgrew the program's. {_of_digits(model)}{OVERFLOW}"
     if fault.name == "PivotLimit":
         return f"the limit is {fault.fields['limit']} pivots: a greater one is given by `pivots=`, to 10,000,000"
     if fault.name == "Dependent":
@@ -78,6 +81,30 @@ def of_model(fault: QuantregError, model, options: dict) -> str | None:
         separators = _separators(model.source) if model.telling is None or model.telling.columns is None else None
         return separators or (maker and maker(fault, model, table))
     return maker and maker(fault, model, table)
+
+
+def _of_digits(model) -> str:
+    """Which columns have more digits than fit beside so many of them."""
+    try:
+        table, weights = model.table, model.told_weights
+    except (ValueError, IndexError):
+        return ""
+    used = used_columns(model.told, table.cells, weights)
+    response = response_name(model.told)
+    count = sum(1 if name in table.numeric else len(set(table.cells[name])) - 1 for name in used if name not in (response, weights))
+    fitting = next((digits for columns, digits in FITTING_DIGITS.items() if columns >= count), 2)
+    digits = {name: _digits(table, name) for name in used if name in table.numeric}
+    longer = [f"{name} has {number}" for name, number in sorted(digits.items(), key=lambda it: -it[1]) if number > fitting]
+    if not longer:
+        return ""
+    return f"With {count} column{'s' if count != 1 else ''} beside the intercept some {fitting} digits fit, and {listed(longer, 4)}. "
+
+
+def _digits(table, name) -> int:
+    """How many digits the greatest number of a column has, all of them written as whole numbers of one unit."""
+    values = [table.number(record, name) for record in range(table.records) if table.has(record, [name])]
+    unit = math.lcm(*(value.denominator for value in values))
+    return len(str(max((abs(value.numerator) * (unit // value.denominator) for value in values), default=0)))
 
 
 def _separators(source: bytes) -> str | None:

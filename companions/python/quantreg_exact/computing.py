@@ -108,7 +108,8 @@ class Computed:
         except Exception as error:
             raise self._cannot(error) from error
         self.contrast, self.order = getattr(found, "contrast", None), getattr(found, "levels", None)
-        found = getattr(found, "data", found) if type(found).__name__ == "_CategoricalBox" else found
+        if type(found).__name__ == "_CategoricalBox":
+            found = pandas.Series(pandas.Categorical(found.data))
         if not isinstance(found, (pandas.Series, pandas.DataFrame)):
             values = numpy.asarray(found) if not isinstance(found, pandas.Categorical) else found
             found = pandas.DataFrame(values) if values.ndim == 2 else pandas.Series(values) if values.ndim == 1 else pandas.Series([values.item()])

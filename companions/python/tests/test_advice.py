@@ -96,6 +96,12 @@ class ByTheProgram(unittest.TestCase):
                 file.write_bytes(source)
                 self.told(name, wanted, fit, "y ~ 1", file, "1/2")
 
+    def test_too_many_records(self):
+        many = pandas.DataFrame({"y": range(16_385), "x": [None] * 2 + [1] * 16_383})
+        self.told("TooManyRows", "the table has 16,385 records, and the program takes 16,384: data.sample(16_384", fit, "y ~ 1", many, "1/2")
+        wanted = "the table has 16,385 records, and the program takes 16,384: 16,383 of them have all cells that are used, and dropna()"
+        self.told("TooManyRows", wanted, fit, "y ~ x", many, "1/2")
+
     def test_options(self):
         for call, words, options, name, wanted in [
             (fit, ("y ~ 1", TABLE, "3/2"), {}, "BadRange", "a quantile is from 0 to 1, and lo is not above hi: lo is 3/2, hi is 3/2"),
@@ -132,6 +138,15 @@ class Others(unittest.TestCase):
         fault = refused(self.LINE, 7, lambda program: fault_of(fit, "y ~ income", TABLE, "1/2", program=program))
         self.assertTrue(fault.is_overflow)
         self.assertIn("When a run ends with status 7", fault.advice)
+        # No column has more digits than fit.
+        self.assertNotIn("digits fit", fault.advice)
+        long = pandas.DataFrame({"y": [0.1234567, 2, 3, 5], "x": [0.123456789012, 3, 1, 2], "z": [1, 2, 4, 9], "t": [12345, 3, 1, 5]})
+        # The unit of x is 1/250,000,000,000, and 3 is 750,000,000,000 of them.
+        for formula, wanted in [
+            ("y ~ x + z", "With 2 columns beside the intercept some 11 digits fit, and x has 12. Round"),
+            ("y ~ x + z + t + I(t*z) + I(x^2)", "With 3 columns beside the intercept some 8 digits fit, and x has 12. Round"),
+        ]:
+            self.assertIn(wanted, refused(self.LINE, 7, lambda program: fault_of(fit, formula, long, "1/2", program=program)).advice)
         page = (Path(__file__).resolve().parents[3] / "docs/MANUAL.md").read_text()
         self.assertTrue("\n## When a run ends with status 7\n" in page, "the page is named as the advice says")
 

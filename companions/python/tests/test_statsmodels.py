@@ -170,6 +170,7 @@ class OfFrames(unittest.TestCase):
             ("y ~ C(x > 4) * z", ["C(x > 4)True", "z", "C(x > 4)True:z"], None),
             ("y ~ (x + z)**2", ["x", "z", "x:z"], None),
             ("y ~ center(x)", ["center(x)"], None),
+            ("y ~ C(x)", [f"C(x){level}" for level in (2, 4, 5, 7, 8, 9)], None),
             ("y ~ C(size, Treatment('mid'))", ["C(size, Treatment('mid'))low", "C(size, Treatment('mid'))high"], None),
             ("y ~ I(3/2^2 * x)", ["I(3/2^2 * x)"], "y ~ I(3/2**2 * x)"),
         ]:
@@ -263,7 +264,11 @@ def _analyses():
     yield ("copper", "WORLDCONSUMPTION ~ COPPERPRICE + TIME", metal, 0.5)
     yield ("executions", "EXECUTIONS ~ INCOME + SOUTH", deaths, 0.85)
     yield ("Scottish votes", "YES ~ COUTAX + UNEMPF", scots, 0.5)
-    yield ("trips", "invt ~ hinc + C(mode)", trips.iloc[:200].rename(columns={"invt": "invt"}), 0.37)
+    yield ("trips", "invt ~ hinc + C(mode)", trips.iloc[:200], 0.37)
+
+
+# Analyses in which the iterations of statsmodels 0.13.5 end at a greater loss than the least, by 5 % and by 0.6 %.
+ENDED_EARLY = ("expenditure by a square", "executions")
 
 
 @needs_program
@@ -279,12 +284,15 @@ class Analyses(unittest.TestCase):
                 self.assertEqual(ours.records, int(other.nobs))
                 least, reached = float(ours.loss_at(tau)), loss(other.resid, tau)
                 self.assertLessEqual(least, reached * (1 + 1e-12))
+                if name in ENDED_EARLY:
+                    continue
                 self.assertLess(reached, least * 1.0001)
                 if ours.is_unique(tau):
                     unique += 1
                     fitted = np.array(ours.fitted(), dtype=float)
                     scale = np.abs(fitted).max()
                     np.testing.assert_allclose(fitted, other.fittedvalues, rtol=0, atol=0.003 * scale)
+        # Where several fits lose as little, theirs may be another one.
         self.assertGreaterEqual(unique, 20)
 
 
