@@ -34,7 +34,7 @@ OVERFLOW = (
     " status 7' of docs/MANUAL.md has more."
 )
 # So many digits fit for so many columns beside the intercept, as bench/limits/README.md has them measured.
-FITTING_DIGITS = {1: 17, 2: 11, 3: 8, 4: 7, 6: 5, 8: 4, 10: 3}
+FITTING_DIGITS = {1: 17, 2: 11, 3: 8, 4: 7, 6: 5, 8: 4, 10: 3, 15: 2}
 
 
 def close_to(word: str, known) -> str:
@@ -92,7 +92,7 @@ def _of_digits(model) -> str:
     used = used_columns(model.told, table.cells, weights)
     response = response_name(model.told)
     count = sum(1 if name in table.numeric else len(set(table.cells[name])) - 1 for name in used if name not in (response, weights))
-    fitting = next((digits for columns, digits in FITTING_DIGITS.items() if columns >= count), 2)
+    fitting = next((digits for columns, digits in FITTING_DIGITS.items() if columns >= count), 1)
     digits = {name: _digits(table, name) for name in used if name in table.numeric}
     longer = [f"{name} has {number}" for name, number in sorted(digits.items(), key=lambda it: -it[1]) if number > fitting]
     if not longer:

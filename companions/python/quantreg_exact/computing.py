@@ -43,7 +43,8 @@ class Computed:
     """An expression of a formula that stands as one or several columns.
 
     `label` is the expression as it was written, `names` those of its columns, `codes` those that the program is told, and `levels` those
-    of a factor. `digits` are left of each number, counted from the first of the column's greatest.
+    of a factor, with the `contrast` and the `order` that C( ) asks for. `digits` are left of each number, counted from the first of the
+    column's greatest, which are so many decimal `places`.
     """
 
     label: str
@@ -53,6 +54,8 @@ class Computed:
     codes: list = field(default_factory=list)
     levels: list | None = None
     places: list = field(default_factory=list)
+    contrast: object = None
+    order: tuple | None = None
     state: dict | None = field(default=None, repr=False)
 
     def __getstate__(self):
@@ -80,7 +83,6 @@ class Computed:
         self.levels = self._levels(columns[0]) if columns[0].levels is not None else None
         if self.levels is not None:
             columns[0].levels = self.levels
-            self.contrast = None
         self.places = [self._places(column) for column in columns]
         return self._rounded(columns)
 

@@ -3,6 +3,8 @@
 statsmodels iterates, so that its coefficients are near ours where the fit is unique, and its check loss is never below the exact one.
 """
 
+import pickle
+import tempfile
 import unittest
 import warnings
 from fractions import Fraction as F
@@ -10,9 +12,9 @@ from fractions import Fraction as F
 import numpy as np
 import pandas
 
-from quantreg_exact import QuantregError, fit
+from quantreg_exact import QuantregError, fit, path, predictions, rank_test, ranks
 
-from stand_ins import STACKLOSS, needs_program, noted
+from stand_ins import needs_program, noted, refusing
 
 try:
     import statsmodels.formula.api as smf
@@ -21,6 +23,7 @@ try:
 except ImportError:
     smf = None
 
+OVERFLOW = "quantreg: solver: Overflow place=test quantity=statistic at=1 term=1 op=mul left=2 right=3"
 needs_statsmodels = unittest.skipUnless(smf, "python3-statsmodels is not installed")
 
 GROUPS = pandas.DataFrame(
@@ -211,6 +214,56 @@ class OfFrames(unittest.TestCase):
             fit("y ~ np.log(x)", GROUPS.assign(x=range(15)), 0.5)
         with self.assertRaisesRegex(ValueError, "asks for contrasts of its own"):
             fit("y ~ C(size, Sum)", GROUPS, 0.5)
+        with self.assertRaisesRegex(ValueError, "has the contrasts treatment, and not sum"):
+            fit("y ~ C(size, Treatment('mid'))", GROUPS, 0.5, contrasts="sum")
+        with self.assertRaisesRegex(ValueError, r"new data: np\.log\(x\) can't be worked out: .*name 'x' is not defined"):
+            self.names_and_fit("y ~ np.log(x)")[1].predict(GROUPS[["z"]])
+        with self.assertRaisesRegex(ValueError, "record 1 has a level of code that the fit lacks: 104"):
+            self.names_and_fit("y ~ code")[1].predict(pandas.DataFrame({"code": ["104"]}))
+        with self.assertRaisesRegex(ValueError, "z is a column of numbers, and the new data have texts there: 'two'"):
+            self.names_and_fit("y ~ z")[1].predict(pandas.DataFrame({"z": ["two"]}))
+
+    def test_a_fit_that_was_sent_has_its_own_records(self):
+        found = self.names_and_fit("y ~ np.log(x) + code")[1]
+        again = pickle.loads(pickle.dumps(found))
+        self.assertEqual(again.fitted(), found.fitted())
+        with self.assertRaisesRegex(ValueError, "was worked out in another process"):
+            again.predict(GROUPS)
+
+    def test_files_are_read_as_they_stand(self):
+        file = self.enterContext(tempfile.TemporaryDirectory()) + "/table.csv"
+        GROUPS.to_csv(file, index=False)
+        for formula, names in [
+            ("y ~ größe + 2nd", ["größe", "2nd"]),
+            ("y ~ np.log(x) + `my col`", ["np.log(x)", "my col"]),
+            ("y ~ I(x > 4) + größe", ["I(x > 4)True", "größe"]),
+        ]:
+            with self.subTest(formula=formula), noted():
+                of_file, of_frame = fit(formula, file, 0.5), fit(formula, GROUPS, 0.5)
+                self.assertEqual((of_file.names, of_file.segments), (of_frame.names, of_frame.segments))
+                self.assertEqual(of_file.names, ("(Intercept)", *names))
+                self.assertEqual(of_file.predict(GROUPS), of_frame.predict(file))
+        # There are no types in a file: 101 is a number, and NA a cell that is missing.
+        with noted():
+            self.assertEqual((fit("y ~ code", file, 0.5).names, fit("y ~ side", file, 0.5).dropped), (("(Intercept)", "code"), 6))
+
+    def test_other_jobs_have_the_names_of_the_table(self):
+        plain = GROUPS.rename(columns={"größe": "x1", "my col": "x2"}).assign(size=list("abc") * 5)
+        pairs = [(GROUPS, "y ~ größe + size + my col"), (plain, "y ~ x1 + size + x2")]
+        with noted():
+            ours, others = (rank_test(formula, table, "size") for table, formula in pairs)
+            self.assertEqual((ours.statistic, ours.tested_names), (others.statistic, ("sizemid", "sizehigh")))
+            rescued = refusing("'test '*", OVERFLOW, lambda program: rank_test(pairs[0][1], GROUPS, "size", program=program))
+            self.assertEqual((rescued.statistic, rescued.names), (ours.statistic, ours.names))
+            self.assertEqual(*(ranks(formula, table).wilcoxon for table, formula in pairs))
+            ours, others = (path(formula, table, 0.5, 1, 2) for table, formula in pairs)
+            self.assertEqual(ours.segments, others.segments)
+            self.assertEqual(ours.names, ("(Intercept)", "größe", "sizemid", "sizehigh", "my col"))
+            ours.check()
+            missing = GROUPS.assign(y=[None, *GROUPS.y[1:]])
+            asked = predictions("y ~ größe + size", missing, 0.5)
+            self.assertEqual(asked.names, ("(Intercept)", "größe", "sizemid", "sizehigh"))
+            self.assertEqual([asked.predictions[0].steps[0].value], fit("y ~ größe + size", missing, 0.5).predict(GROUPS[:1]))
 
     def test_unknown_words_are_errors(self):
         for words in ({"tau": 0.5}, {"method": "br"}, {"q": 0.5}, {"se": "boot"}):
