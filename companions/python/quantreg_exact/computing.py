@@ -19,15 +19,6 @@ class CannotCompute(Exception):
     """Why an expression can't be worked out."""
 
 
-def is_installed() -> bool:
-    """Whether patsy is installed."""
-    try:
-        import patsy  # noqa: F401
-    except ImportError:
-        return False
-    return True
-
-
 def _environment():
     """The names of who calls this package, as patsy takes them, and behind them numpy's."""
     from patsy import EvalEnvironment

@@ -148,12 +148,12 @@ def plot_process(
             axis.set_ylim(min(ends[0], height_of - room), max(ends[1], height_of + room))
             axis.axhline(height_of, color=RUG, linewidth=1, linestyle="--", zorder=2, label="least squares")
         axis.set_title(name, fontsize=10)
-        axis.set_ylabel(textwrap.fill(_unit_of(report, name, units, response), int(LETTERS * height)), fontsize=8)
+        axis.set_ylabel(textwrap.fill(_unit_of(report, name, units, response), int(0.7 * LETTERS * height)), fontsize=8)
         axis.set_xlabel("quantile", fontsize=8)
         axis.xaxis.set_tick_params(labelbottom=True)
         axis.tick_params(labelsize=8)
     count = f"{len(report.segments):,} segments" if len(fits) == 1 else f"{len(fits)} quantiles"
-    tails = f"; heights by the middle {100 * (1 - 2 * trim):.4g} %" if trim and len(fits) == 1 else ""
+    tails = f"; heights by the middle {100 * (1 - 2 * trim):.4g} % of the range" if trim and len(fits) == 1 else ""
     line = "; dashed: least squares" if least_squares else ""
     below = f"{count}{said}{_bars_text(report, intervals, level)}{line}{tails}"
     figure.supxlabel(textwrap.fill(below, int(LETTERS * figure.get_figwidth())), fontsize=8, color="0.35")

@@ -3,11 +3,14 @@
 statsmodels iterates, so that its coefficients are near ours where the fit is unique, and its check loss is never below the exact one.
 """
 
+import importlib.util
 import pickle
+import sys
 import tempfile
 import unittest
 import warnings
 from fractions import Fraction as F
+from unittest import mock
 
 import numpy as np
 import pandas
@@ -23,6 +26,7 @@ try:
 except ImportError:
     smf = None
 
+needs_patsy = unittest.skipUnless(importlib.util.find_spec("patsy"), "python3-patsy is not installed")
 OVERFLOW = "quantreg: solver: Overflow place=test quantity=statistic at=1 term=1 op=mul left=2 right=3"
 needs_statsmodels = unittest.skipUnless(smf, "python3-statsmodels is not installed")
 
@@ -162,6 +166,7 @@ class OfFrames(unittest.TestCase):
         with self.assertRaisesRegex(QuantregError, "the table has no records"):
             fit("y ~ x", GROUPS[:0], 0.5)
 
+    @needs_patsy
     def test_columns_that_patsy_works_out(self):
         for formula, names, wanted in [
             ("y ~ np.log(x)", ["np.log(x)"], None),
@@ -179,6 +184,7 @@ class OfFrames(unittest.TestCase):
         ]:
             self.agree(formula, names, wanted)
 
+    @needs_patsy
     def test_splines_are_rounded_by_digits(self):
         names = [f"bs(x, df=4)[{at}]" for at in range(4)]
         with noted() as texts:
@@ -192,6 +198,7 @@ class OfFrames(unittest.TestCase):
         # What patsy took from the fitted table holds for new data: the first record alone has the same row.
         self.assertEqual(found.predict(GROUPS[:1]), found.fitted()[:1])
 
+    @needs_patsy
     def test_a_note_tells_what_was_worked_out(self):
         with noted() as texts:
             fit("y ~ np.log(x) + np.sqrt(z)", GROUPS, 0.5, digits=3)
@@ -202,6 +209,7 @@ class OfFrames(unittest.TestCase):
         with self.assertRaisesRegex(ValueError, "digits= rounds the columns that are worked out of a formula, and this one has none"):
             fit("y ~ x", GROUPS, 0.5, digits=3)
 
+    @needs_patsy
     def test_what_cannot_be_worked_out(self):
         for formula, wanted in [
             ("y ~ foo(x)", r"foo\(x\) can't be worked out: .*name 'foo' is not defined"),
@@ -223,6 +231,7 @@ class OfFrames(unittest.TestCase):
         with self.assertRaisesRegex(ValueError, "z is a column of numbers, and the new data have texts there: 'two'"):
             self.names_and_fit("y ~ z")[1].predict(pandas.DataFrame({"z": ["two"]}))
 
+    @needs_patsy
     def test_a_fit_that_was_sent_has_its_own_records(self):
         found = self.names_and_fit("y ~ np.log(x) + code")[1]
         again = pickle.loads(pickle.dumps(found))
@@ -230,6 +239,7 @@ class OfFrames(unittest.TestCase):
         with self.assertRaisesRegex(ValueError, "was worked out in another process"):
             again.predict(GROUPS)
 
+    @needs_patsy
     def test_files_are_read_as_they_stand(self):
         file = self.enterContext(tempfile.TemporaryDirectory()) + "/table.csv"
         GROUPS.to_csv(file, index=False)
@@ -264,6 +274,19 @@ class OfFrames(unittest.TestCase):
             asked = predictions("y ~ größe + size", missing, 0.5)
             self.assertEqual(asked.names, ("(Intercept)", "größe", "sizemid", "sizehigh"))
             self.assertEqual([asked.predictions[0].steps[0].value], fit("y ~ größe + size", missing, 0.5).predict(GROUPS[:1]))
+
+    def test_without_patsy_a_sentence_says_what_is_missing(self):
+        with mock.patch.dict(sys.modules, {"patsy": None}):
+            for formula, wanted in [
+                ("y ~ np.log(x)", r"np\.log\(x\) would be worked out by patsy, which isn't installed \(python3-patsy\): compute the column first"),
+                ("y ~ z + I(1/x)", r"I\(1/x\) would be worked out by patsy"),
+            ]:
+                with self.assertRaisesRegex(QuantregError, wanted):
+                    fit(formula, GROUPS, 0.5)
+            # The program would take 3/2^2 for 9/4.
+            with self.assertRaisesRegex(ValueError, "a ratio beside a power is another number to the program"):
+                fit("y ~ I(3/2^2 * x)", GROUPS, 0.5)
+            self.assertEqual(self.names_and_fit("y ~ I(x**2) + Q('my col')")[0], ["(Intercept)", "I(x^2)", "my col"])
 
     def test_unknown_words_are_errors(self):
         for words in ({"tau": 0.5}, {"method": "br"}, {"q": 0.5}, {"se": "boot"}):
