@@ -33,8 +33,8 @@ OVERFLOW = (
     " smaller unit; ask for a smaller range, or give a shorter critical value by `crit=`. The page 'When a run ends with"
     " status 7' of docs/MANUAL.md has more."
 )
-# So many digits fit for so many columns beside the intercept, as bench/limits/README.md has them measured.
-FITTING_DIGITS = {1: 17, 2: 11, 3: 8, 4: 7, 6: 5, 8: 4, 10: 3, 15: 2}
+# So many digits fit for 1, 2 and more columns beside the intercept, as bench/limits/README.md has them measured over all quantiles.
+FITTING_DIGITS = (15, 11, 8, 7, 6, 5, 4, 4)
 
 
 def close_to(word: str, known) -> str:
@@ -69,7 +69,7 @@ def of_model(fault: QuantregError, model, options: dict) -> str | None:
     if fault.name == "PivotLimit":
         return f"the limit is {fault.fields['limit']} pivots: a greater one is given by `pivots=`, to 10,000,000"
     if fault.name == "Dependent":
-        return _of_dependent(fault.fields["combination"])
+        return _of_dependent(fault.fields["combination"], model)
     maker = _BY_TABLE.get(fault.name)
     try:
         table = model.table
@@ -92,12 +92,13 @@ def _of_digits(model) -> str:
     used = used_columns(model.told, table.cells, weights)
     response = response_name(model.told)
     count = sum(1 if name in table.numeric else len(set(table.cells[name])) - 1 for name in used if name not in (response, weights))
-    fitting = next((digits for columns, digits in FITTING_DIGITS.items() if columns >= count), 1)
+    fitting = FITTING_DIGITS[min(max(count, 1), len(FITTING_DIGITS)) - 1]
+    about = "some" if count <= len(FITTING_DIGITS) else "fewer than"
     digits = {name: _digits(table, name) for name in used if name in table.numeric}
     longer = [f"{name} has {number}" for name, number in sorted(digits.items(), key=lambda it: -it[1]) if number > fitting]
     if not longer:
         return ""
-    return f"With {count} column{'s' if count != 1 else ''} beside the intercept some {fitting} digits fit, and {listed(longer, 4)}. "
+    return f"With {count} column{'s' if count != 1 else ''} beside the intercept {about} {fitting} digits fit, and {listed(longer, 4)}. "
 
 
 def _digits(table, name) -> int:
@@ -137,9 +138,10 @@ def _of_options(fault, model, options):
     return None
 
 
-def _of_dependent(combination: tuple[Fraction, ...]) -> str:
+def _of_dependent(combination: tuple[Fraction, ...], model) -> str:
     terms = [f"{value} times column {column}" for column, value in enumerate(combination, 1) if value]
-    return f"the columns are dependent: {' plus '.join(terms)} is 0 in every record; leave out one of them"
+    product = ", or where factors have a product without each of them, as f:g, write f*g or 0 + f:g" if ":" in model.told else ""
+    return f"the columns are dependent: {' plus '.join(terms)} is 0 in every record; leave out one of them{product}"
 
 
 def _known(model, table):

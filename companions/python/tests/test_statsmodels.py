@@ -275,6 +275,17 @@ class OfFrames(unittest.TestCase):
             self.assertEqual(asked.names, ("(Intercept)", "größe", "sizemid", "sizehigh"))
             self.assertEqual([asked.predictions[0].steps[0].value], fit("y ~ größe + size", missing, 0.5).predict(GROUPS[:1]))
 
+    def test_products_of_factors_are_those_of_patsy_or_refused(self):
+        table = pandas.concat([GROUPS, GROUPS.assign(y=GROUPS.y * 2 + 1, told=~GROUPS.told)], ignore_index=True)
+        for formula in ("size*told", "size + size:told", "size*told*x", "x:size + told", "0 + size + told", "0 + size:told", "size*x - x", "size*x - size"):
+            with self.subTest(formula=formula), noted():
+                found = fit(f"y ~ {formula}", table, 0.5)
+                if smf:
+                    self.assertAlmostEqual(float(found.loss_at(0.5)), loss(theirs(f"y ~ {formula}", table, 0.5).resid, 0.5), 4)
+        for formula in ("size:told", "size + told:side", "told:x + size:x"):
+            with self.assertRaisesRegex(QuantregError, "the columns are dependent: .* write f.g or 0 . f:g"):
+                fit(f"y ~ {formula}", table, 0.5)
+
     def test_without_patsy_a_sentence_says_what_is_missing(self):
         with mock.patch.dict(sys.modules, {"patsy": None}):
             for formula, wanted in [
