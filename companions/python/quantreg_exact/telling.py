@@ -18,7 +18,7 @@ from .columns import Column, frame_of
 from .computing import CannotCompute, Computed
 from .designs import Table, response_name, used_columns
 from .numbers import is_number_text, listed
-from .wording import Wording, is_arithmetic, is_plain, label_of, pieces_of, tokens_of
+from .wording import Wording, is_arithmetic, is_plain, label_of, pieces_of, text_of, tokens_of
 
 _CODE = re.compile(r"(`?)<(\d+)(?:\.\d+)?>(`?)")
 
@@ -229,13 +229,16 @@ def _of_frame(formula, frame, weights, digits):
     """A data frame is told by the columns that the formula and the weights take."""
     names = list(frame.columns)
     tokens = tokens_of(formula, names)
-    named = {token.name for token in tokens if token.name is not None} | {weights} | {token.text[1:-1] for token in tokens if token.kind == "text"}
+    named = {token.name for token in tokens if token.name is not None} | {weights} | {text_of(token) for token in tokens if token.kind == "text"}
     by_dot = any(token == "." for token in tokens)
     places = [at for at, name in enumerate(names) if by_dot or name in named]
     twice = [names[at] for at in places if names.count(names[at]) > 1]
     if twice:
         raise ValueError(f"the data frame has more than one column {twice[0]!r}")
     taken = {names[at]: Column(frame.iloc[:, at], names[at]) for at in places if by_dot or not _only_worked_out(formula, names, names[at], weights)}
+    if not taken:
+        # The program is to say what is wrong with the formula, and needs a table for that.
+        taken = {name: column for name in dict.fromkeys(names) if (column := _column_or_none(frame, name)) is not None}
     codes = {name: name if is_plain(name) and not _begins_another(name, taken) else f"<{names.index(name) + 1}>" for name in taken}
     quoted = lambda name, was_quoted: (
         f"`{name}`" if name not in codes and not is_plain(name) else _as_told(codes.get(name, name), was_quoted)
@@ -253,6 +256,13 @@ def _of_frame(formula, frame, weights, digits):
         dict(units) if isinstance(units, Mapping) else {}, (*notes, *asked.note), tuple(names),
     )  # fmt: skip
     return wording.told, _csv(told, len(frame)), telling
+
+
+def _column_or_none(frame, name):
+    try:
+        return Column(frame.iloc[:, list(frame.columns).index(name)], name)
+    except ValueError:
+        return None
 
 
 def _as_told(code, was_quoted):

@@ -5,6 +5,7 @@ without backticks where it is a column's, `Q("name")` is a name, `**` is `^`, an
 worked out as a column.
 """
 
+import ast
 import re
 from collections.abc import Callable
 from dataclasses import dataclass
@@ -59,6 +60,14 @@ def tokens_of(formula: str, names) -> list[Token]:
             found.append(Token("name" if named is not None else kind, match[0], at, match.end(), named))
         at = found[-1].end
     return found
+
+
+def text_of(token: Token) -> str:
+    """What a text between quotes is."""
+    try:
+        return ast.literal_eval(token.text)
+    except (SyntaxError, ValueError):
+        return token.text[1:-1]
 
 
 def closing(tokens: list[Token], opened: int) -> int | None:
@@ -120,7 +129,7 @@ def pieces_of(formula: str, names, quoted: Callable, worked_out: Callable, dot: 
             at += 2
             continue
         if end is not None and token.text == "Q" and end == at + 3 and tokens[at + 2].kind == "text":
-            pieces.append(Piece(token.start, tokens[end].end, quoted(tokens[at + 2].text[1:-1], True)))
+            pieces.append(Piece(token.start, tokens[end].end, quoted(text_of(tokens[at + 2]), True)))
             at = end + 1
             continue
         if end is not None and token.text not in ("factor", "qss"):
@@ -129,7 +138,7 @@ def pieces_of(formula: str, names, quoted: Callable, worked_out: Callable, dot: 
                 pieces.append(Piece(token.start, tokens[end].end, told))
                 at = end + 1
                 continue
-        if token.name is not None and token.text not in ("factor", "qss"):
+        if token.name is not None and end is None:
             told = quoted(token.name, token.text.startswith("`"))
             if told != token.text:
                 pieces.append(Piece(token.start, token.end, told))

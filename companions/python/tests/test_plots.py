@@ -145,7 +145,7 @@ class Pictures(unittest.TestCase):
         table = pandas.DataFrame({"y": [0, 2, 3, 1], "x": [0, 1, 3, 2]})
         table.attrs["units"] = {"y": "francs", "x": "miles"}
         found = fit("y ~ x", table, 0, 1)
-        self.assertEqual(plot_process(found).axes[1].get_ylabel(), "y (francs) per unit of x (miles)")
+        self.assertEqual(plot_process(found).axes[1].get_ylabel().replace("\n", " "), "y (francs) per unit of x (miles)")
         (axis,) = plot_fit(found).axes
         self.assertEqual((axis.get_xlabel(), axis.get_ylabel()), ("x (miles)", "y (francs)"))
 

@@ -143,6 +143,19 @@ class OfFrames(unittest.TestCase):
         numbered = GROUPS.rename(columns={"x": 1})
         self.agree("y ~ `1` + z", ["1", "z"], "y ~ Q('1') + z", data=numbered.set_axis(map(str, numbered.columns), axis=1))
 
+    def test_names_that_are_words_of_the_language(self):
+        table = GROUPS.rename(columns={"x": "factor", "z": "new\nline", "my col": "co`de", "2nd": "I"})
+        for formula, names, wanted in [
+            ("y ~ I", ["I"], "y ~ Q('I')"),
+            (r"y ~ Q('new\nline') + Q('co`de')", ["new\nline", "co`de"], None),
+            ("y ~ factor * code", ["factor", "code102", "code103", "factor:code102", "factor:code103"], None),
+        ]:
+            self.agree(formula, names, wanted, data=table)
+        with self.assertRaisesRegex(QuantregError, "there is no column 'gröse'; did you mean 'größe'"):
+            fit("gröse ~ zzz", table.assign(when=pandas.Timestamp(0)), 0.5)
+        with self.assertRaisesRegex(QuantregError, "the formula ends where more should stand"):
+            fit("", table, 0.5)
+
     def test_two_columns_of_one_name(self):
         with self.assertRaisesRegex(ValueError, "more than one column 'x'"):
             fit("y ~ x", pandas.concat([GROUPS, GROUPS[["x"]]], axis=1), 0.5)
