@@ -140,5 +140,5 @@ class Computed:
     def _rounded(self, columns):
         for column, places in zip(columns, self.places):
             if places is not None:
-                column.cells = column.cells.astype(float).map(lambda it: it if math.isnan(it) else float(f"{it:.{places}f}") if places > 0 else round(it, places))
+                column.cells = column.cells.astype(float).map(lambda it, places=places: it if math.isnan(it) else round(it, places))
         return columns

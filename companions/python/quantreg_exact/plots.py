@@ -245,7 +245,8 @@ def plot_fit(fit, x=None, taus=None, *, units=None, width=6.4, height=4.6):
     numbers, factors, smooths, is_straight = _sorts(first)
     named = first.model.decoded
     if len(numbers) > 1 or not numbers and not factors or x is not None and x not in [named(it) for it in numbers or factors[:1]]:
-        raise ValueError(f"the fit has the columns {', '.join(map(named, numbers + factors)) or 'none'}; this picture is of one regressor, and of factors")
+        columns = ", ".join(map(named, numbers + factors)) or "none"
+        raise ValueError(f"the fit has the columns {columns}; this picture is of one regressor, and of factors")
     if any(first.offsets()):
         raise ValueError("with offsets the fit is no line; this picture has none")
     across = (numbers or factors)[0]

@@ -10,6 +10,7 @@ import re
 from collections.abc import Mapping
 from dataclasses import dataclass, field
 from fractions import Fraction
+from functools import cached_property
 from pathlib import Path
 
 import pandas
@@ -57,7 +58,7 @@ class Telling:
         name = self.names[code]
         return f"`{name}`" if found[1] and found[3] and not name.isidentifier() else name
 
-    @property
+    @cached_property
     def _by_code(self):
         return {code: level for codes in self.levels.values() for level, code in codes.items() if code != level}
 
