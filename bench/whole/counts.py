@@ -1,12 +1,15 @@
 #!/usr/bin/env python3
-"""How many instructions some jobs take, which callgrind counts alike in each run, and whether one takes more than its limit.
+"""How many instructions some jobs take, which callgrind counts alike in each run, and whether one takes more than its limit; and how many threads
+some begin.
 
 A time on a busy machine says little of a change by a tenth; this count does. Each limit stands close above what the job takes, so that it takes more
-with a quick way shut, by as much as README.md says. Where valgrind isn't installed, all are skipped.
+with a quick way shut, by as much as README.md says. Threads are counted by what is handed out: a list of n parts takes n - 1 threads beside its own,
+up to 64. Where valgrind isn't installed, all are skipped.
 
 usage: counts.py PROGRAM
 """
 
+import json
 import re
 import shutil
 import subprocess
@@ -14,9 +17,12 @@ import sys
 import tempfile
 from pathlib import Path
 
-from ratios import WHOLE, generated, spent
+from ratios import QUARTILES, WHOLE, generated, spent
 
 MEDIAN = ["--formula", "y ~ .", "--lo", "1/2", "--hi", "1/2"]
+
+# How many segments of a certificate are checked in one part.
+PER_PART = 64
 
 # A job on a table of 1,000 rows and 5 columns, on one with long tails, or on the certificate of the fits of the first, what it shows, and the most that it may take, in millions of instructions.
 JOBS = [
@@ -29,13 +35,34 @@ JOBS = [
 ]
 
 
-def counted(words, read):
-    """The millions of instructions of a run that reads a file."""
-    callgrind = ["valgrind", "--tool=callgrind", "--callgrind-out-file=/dev/null"]
+def counted(words, read, out="/dev/null"):
+    """The millions of instructions of a run that reads a file; callgrind's own report goes out."""
+    callgrind = ["valgrind", "--tool=callgrind", f"--callgrind-out-file={out}"]
     with open(read, "rb") as given:
         ran = subprocess.run([*callgrind, *words], stdin=given, stdout=subprocess.DEVNULL, stderr=subprocess.PIPE, text=True, check=True)
     found = re.search(r"Collected : (\d+)", ran.stderr)
     return int(found[1]) / 1e6 if found else sys.exit("counts: failed, since callgrind told no count, as of a program that isn't the gate's")
+
+
+def threads_begun(words, read, room):
+    """How many threads a run begins, by the calls of the C library's function for it."""
+    counted(words, read, room / "calls")
+    told = (room / "calls").read_text(encoding="utf-8")
+    number = re.search(r"^c?fn=(\(\d+\)) pthread_create\b", told, re.MULTILINE)
+    return sum(map(int, re.findall(rf"^cfn={re.escape(number[1])}.*\ncalls=(\d+)", told, re.MULTILINE))) if number else 0
+
+
+def tell_threads(program, table, certificate, room):
+    """Prints how many threads two jobs begin, and gives whether one begins another number than its parts say."""
+    begun = threads_begun([program, "process", *QUARTILES], table, room)
+    # a solve for each of three quantiles, and an interval for each of these and of the table's five columns
+    wanted = (3 - 1) + (3 * 5 - 1)
+    print(f"rank intervals at three quantiles: {begun} threads, wanted {wanted}: the solves are made at once, and the intervals")
+    parts = -(-len(json.loads(certificate.read_text(encoding="utf-8"))["segments"]) // PER_PART)
+    checked = threads_begun([program, "check"], certificate, room)
+    # both bounds of the dual values, and the sums
+    print(f"check: {checked} threads, wanted {3 * (parts - 1)}: each part of the segments is checked beside the others")
+    return begun != wanted or checked != 3 * (parts - 1)
 
 
 def with_long_tails(table, room):
@@ -56,7 +83,7 @@ def without_debug(program, room):
 
 
 def main(program):
-    """Prints each count with its limit, and ends with 1 where one is above it."""
+    """Prints each count with its limit, and ends with 1 where one is above it, or a job begins another number of threads."""
     if not shutil.which("valgrind"):
         print("counts: skipped, since no command valgrind was found (Debian: apt install valgrind)")
         return 0
@@ -70,6 +97,7 @@ def main(program):
             took = counted([program, *words], others.get(name, table))
             failed |= took > limit
             print(f"{name}: {took:.1f} million instructions, at most {limit}: {shows}")
+        failed |= tell_threads(program, table, certificate, Path(made))
     return 1 if failed else 0
 
 

@@ -6,12 +6,13 @@ The program's lines are fixed and count offsets, records and columns. Here the w
 import csv
 import difflib
 import io
+import math
 from fractions import Fraction
 
-from .arithmetics import TOKEN, name_of
-from .designs import Table, response_name, used_columns
+from .designs import response_name, used_columns
 from .faults import QuantregError
-from .numbers import listed
+from .numbers import is_number_text, listed
+from .wording import closing, label_of, tokens_of
 
 # Each job's options: those that must stand, and those that may.
 _FITTED = ("weights", "contrasts", "pivots")
@@ -28,10 +29,12 @@ JOBS = {
 }
 
 OVERFLOW = (
-    "A number outgrew the program's. Round columns of many digits, as `data.round(2)`, or write decimals as whole numbers of a smaller"
-    " unit; ask for a smaller range, or give a shorter critical value by `crit=`. The page 'When a run ends with"
+    "Round columns of many digits, as `data.round(2)`, and those that are worked out by `digits=`, or write decimals as whole numbers of a"
+    " smaller unit; ask for a smaller range, or give a shorter critical value by `crit=`. The page 'When a run ends with"
     " status 7' of docs/MANUAL.md has more."
 )
+# So many digits fit for 1, 2 and more columns beside the intercept, as bench/limits/README.md has them measured over all quantiles.
+FITTING_DIGITS = (15, 11, 8, 7, 6, 5, 4, 4)
 
 
 def close_to(word: str, known) -> str:
@@ -62,11 +65,11 @@ def of_model(fault: QuantregError, model, options: dict) -> str | None:
     if fault.group == "usage":
         return _of_options(fault, model, options)
     if fault.is_overflow:
-        return OVERFLOW
+        return f"A number outgrew the program's. {_of_digits(model)}{OVERFLOW}"
     if fault.name == "PivotLimit":
         return f"the limit is {fault.fields['limit']} pivots: a greater one is given by `pivots=`, to 10,000,000"
     if fault.name == "Dependent":
-        return _of_dependent(fault.fields["combination"])
+        return _of_dependent(fault.fields["combination"], model)
     maker = _BY_TABLE.get(fault.name)
     try:
         table = model.table
@@ -75,8 +78,34 @@ def of_model(fault: QuantregError, model, options: dict) -> str | None:
     except (ValueError, IndexError):
         return _separators(model.source)
     if fault.group in ("formula", "table", "design"):
-        return _separators(model.source) or (maker and maker(fault, model, table))
+        separators = _separators(model.source) if model.telling is None or model.telling.columns is None else None
+        return separators or (maker and maker(fault, model, table))
     return maker and maker(fault, model, table)
+
+
+def _of_digits(model) -> str:
+    """Which columns have more digits than fit beside so many of them."""
+    try:
+        table, weights = model.table, model.told_weights
+    except (ValueError, IndexError):
+        return ""
+    used = used_columns(model.told, table.cells, weights)
+    response = response_name(model.told)
+    count = sum(1 if name in table.numeric else len(set(table.cells[name])) - 1 for name in used if name not in (response, weights))
+    fitting = FITTING_DIGITS[min(max(count, 1), len(FITTING_DIGITS)) - 1]
+    about = "some" if count <= len(FITTING_DIGITS) else "fewer than"
+    digits = {name: _digits(table, name) for name in used if name in table.numeric}
+    longer = [f"{name} has {number}" for name, number in sorted(digits.items(), key=lambda it: -it[1]) if number > fitting]
+    if not longer:
+        return ""
+    return f"With {count} column{'s' if count != 1 else ''} beside the intercept {about} {fitting} digits fit, and {listed(longer, 4)}. "
+
+
+def _digits(table, name) -> int:
+    """How many digits the greatest number of a column has, all of them written as whole numbers of one unit."""
+    values = [table.number(record, name) for record in range(table.records) if table.has(record, [name])]
+    unit = math.lcm(*(value.denominator for value in values))
+    return len(str(max((abs(value.numerator) * (unit // value.denominator) for value in values), default=0)))
 
 
 def _separators(source: bytes) -> str | None:
@@ -109,43 +138,79 @@ def _of_options(fault, model, options):
     return None
 
 
-def _of_dependent(combination: tuple[Fraction, ...]) -> str:
+def _of_dependent(combination: tuple[Fraction, ...], model) -> str:
     terms = [f"{value} times column {column}" for column, value in enumerate(combination, 1) if value]
-    return f"the columns are dependent: {' plus '.join(terms)} is 0 in every record; leave out one of them"
+    product = ", or where factors have a product without each of them, as f:g, write f*g or 0 + f:g" if ":" in model.told else ""
+    return f"the columns are dependent: {' plus '.join(terms)} is 0 in every record; leave out one of them{product}"
+
+
+def _known(model, table):
+    """The names of the columns of the table that was given."""
+    return (model.telling and model.telling.known) or list(table.cells)
+
+
+def _tokens_from(fault, model, table):
+    """The tokens of the formula, and how many of them stand before the offset, which counts bytes."""
+    before = len(model.formula.encode()[: fault.fields["offset"]].decode(errors="replace"))
+    tokens = tokens_of(model.formula, _known(model, table))
+    return tokens, sum(token.start < before for token in tokens)
 
 
 def _unknown_name(fault, model, table):
-    token = _token_at(model.formula, fault.fields["offset"])
-    name = name_of(token) if token else "?"
-    if token and model.formula[token.end() :].lstrip(" \t\n").startswith("("):
-        return f"there is no function {name}( ): the only ones are I, factor, offset and qss; compute the column first"
-    return f"there is no column {name!r}{close_to(name, table.cells)}"
+    tokens, at = _tokens_from(fault, model, table)
+    if at + 1 < len(tokens) and tokens[at + 1] == "(":
+        return _no_function(model, tokens, at)
+    name = tokens[at].name if at < len(tokens) else "?"
+    return f"there is no column {name!r}{close_to(name, _known(model, table))}"
 
 
-def _token_at(formula, offset):
-    """The token at an offset, which counts bytes."""
-    before = formula.encode()[:offset].decode(errors="replace")
-    return TOKEN.match(formula, len(before))
+def _no_function(model, tokens, at):
+    """Why a call stayed in the formula, whose name is the token at a place."""
+    end = closing(tokens, at + 1)
+    text = label_of(model.formula[tokens[at].start : tokens[end].end]) if end else ""
+    told = model.telling.failed.get(text) if model.telling else None
+    return told or f"there is no function {tokens[at].text}( ): compute the column first"
 
 
 def _syntax(fault, model, table):
-    token = _token_at(model.formula, fault.fields["offset"])
-    if not token:
-        return "the formula ends where more should stand"
-    before = model.formula[: token.start()].rstrip()
-    word = next((it for it in reversed(list(TOKEN.finditer(before)))), None)
-    if token["open"] and word and name_of(word):
-        return f"there is no function {word[0]}( ): the only ones are I, factor, offset and qss; compute the column first"
+    tokens, at = _tokens_from(fault, model, table)
+    tilde = "; a formula is as in 'y ~ x'" if [token.text for token in tokens].count("~") != 1 or tokens[0] == "~" else ""
+    if at == len(tokens):
+        return f"the formula ends where more should stand{tilde}"
+    # An expression that wasn't worked out is refused at its parenthesis, or somewhere within.
+    for start in range(at, -1, -1):
+        if tokens[start].name is not None and start + 1 < len(tokens) and tokens[start + 1] == "(":
+            end = closing(tokens, start + 1)
+            if start + 1 == at and tokens[start].text not in ("I", "factor", "offset", "qss"):
+                return _no_function(model, tokens, start)
+            if end is not None and end >= at and model.telling and tokens[start].text == "I":
+                told = model.telling.failed.get(label_of(model.formula[tokens[start].start : tokens[end].end]))
+                if told:
+                    return told
+    before = model.formula[: tokens[at].start].rstrip()
     behind = f" behind {before!r}" if before else " at the beginning"
-    division = "; there is no division: compute the column first" if token[0] == "/" else ""
-    return f"{token[0]!r} can't stand{behind}{division}"
+    division = "; there is no division of terms" if tokens[at] == "/" else ""
+    return f"{tokens[at].text!r} can't stand{behind}{division}{tilde}"
 
 
-def no_numbers(table: Table, column: str, most: int = 3) -> str:
-    """Which cells of a column are no numbers: `record 3 has 'two', record 7 '-'`."""
-    found = table.texts(column)
-    told = ", ".join(f"record {record + 1} has {cell!r}" for record, cell in found[:most])
-    return told + (f" and {len(found) - most} more have none" if len(found) > most else "")
+def no_numbers(model, column: str, most: int = 3) -> str:
+    """Which cells of a column are no numbers: `record 3 has 'two', record 7 '-'`; of a column of a data frame that it has texts."""
+    table, level_of = model.table, (model.telling.level_of if model.telling else lambda column, cell: cell)
+    found = [(record, level_of(column, cell)) for record, cell in table.texts(column)]
+    odd = [it for it in found if not is_number_text(it[1].strip(" \t"))]
+    if found and not odd:
+        return f"it has texts, as {found[0][1]!r} in record {found[0][0] + 1}; pandas.to_numeric makes numbers of them"
+    told = ", ".join(f"record {record + 1} has {cell!r}" for record, cell in odd[:most])
+    return told + (f" and {len(odd) - most} more have none" if len(odd) > most else "")
+
+
+def _told(model, table, name):
+    """The name by which the program was told of a column."""
+    return next((told for told in table.cells if model.decoded(told) == name), name)
+
+
+def _levels(model, column, cells):
+    return [model.telling.level_of(column, cell) if model.telling else cell for cell in cells]
 
 
 def _in_header(fault, model, table):
@@ -157,48 +222,52 @@ def _in_header(fault, model, table):
 
 
 def _response(fault, model, table):
-    name = response_name(model.formula)
-    return f"the response {name} is no column of numbers: {no_numbers(table, name)}"
+    name = response_name(model.told)
+    return f"the response {name} is no column of numbers: {no_numbers(model, name)}"
 
 
 def _weights(fault, model, table):
-    return f"the weights {model.weights} are no column of numbers: {no_numbers(table, model.weights)}"
+    return f"the weights {model.weights} are no column of numbers: {no_numbers(model, model.told_weights)}"
 
 
 def _arithmetic(fault, model, table):
-    return f"{fault.fields['name']} is no column of numbers: {no_numbers(table, fault.fields['name'])}"
+    name = fault.fields["name"]
+    return f"{name} is no column of numbers: {no_numbers(model, _told(model, table, name))}"
 
 
 def _unknown_weights(fault, model, table):
-    return f"there is no column {model.weights!r} for the weights{close_to(model.weights, table.cells)}"
+    return f"there is no column {model.weights!r} for the weights{close_to(model.weights, _known(model, table))}"
 
 
 def _one_level(fault, model, table):
-    levels = sorted({cell for cell in table.cells[fault.fields["factor"]] if cell.strip() not in ("", "NA")})
+    column = _told(model, table, fault.fields["factor"])
+    levels = sorted(set(_levels(model, column, (cell for cell in table.cells[column] if cell.strip() not in ("", "NA")))))
     return f"the factor {fault.fields['factor']} has one level among the records that are kept (in the table it has {listed(map(repr, levels))})"
 
 
 def _too_many_columns(fault, model, table):
     if fault.group == "table":
         return None
-    factors = [name for name in used_columns(model.formula, table.cells) if name not in table.numeric]
+    used = used_columns(model.told, table.cells)
+    factors = [name for name in used if name not in table.numeric or f"factor({name})" in model.told.replace("`", "")]
     counts = {name: len(set(table.cells[name])) for name in factors}
     if not counts:
         return "a design has at most 128 columns"
     most = max(counts, key=counts.get)
     texts = len(table.texts(most))
-    why = f"; {no_numbers(table, most)}" if texts < table.records / 2 else ""
+    why = f"; {no_numbers(model, most)}" if 0 < texts < table.records / 2 else ""
     return f"a design has at most 128 columns, and the factor {most} has {counts[most]} levels{why}"
 
 
 def _unknown_level(fault, model, table):
     name, record = fault.fields["factor"], fault.fields["record"]
-    cell = table.cells[name][record - 1]
-    return f"record {record} has {cell!r} in {name}, which no record with a response has{close_to(cell, set(table.cells[name]) - {cell})}"
+    levels = _levels(model, _told(model, table, name), table.cells[_told(model, table, name)])
+    cell = levels[record - 1]
+    return f"record {record} has {cell!r} in {name}, which no record with a response has{close_to(cell, set(levels) - {cell})}"
 
 
 def _nothing_to_predict(fault, model, table):
-    return f"a record to predict has an empty {response_name(model.formula)} and all other cells that the formula uses"
+    return f"a record to predict has an empty {response_name(model.told)} and all other cells that the formula uses"
 
 
 def _no_such_column(fault, model, table):
@@ -206,13 +275,26 @@ def _no_such_column(fault, model, table):
 
 
 def _no_rows(fault, model, table):
-    used = used_columns(model.formula, table.cells)
+    if not table.records:
+        return "the table has no records"
+    used = used_columns(model.told, table.cells)
     gaps = {name: sum(not table.has(record, [name]) for record in range(table.records)) for name in used}
     return f"of {table.records} records none has all cells; missing are " + listed(f"{count} of {name}" for name, count in gaps.items() if count)
 
 
+def _too_many_rows(fault, model, table):
+    used = used_columns(model.told, table.cells, model.told_weights)
+    whole = sum(table.has(record, used) for record in range(table.records))
+    told = f"the table has {table.records:,} records, and the program takes 16,384"
+    if whole <= 16_384 < table.records:
+        return f"{told}: {whole:,} of them have all cells that are used, and dropna() leaves these"
+    smooths = " with the rows of smooths" if fault.group == "program" else ""
+    return f"{told}{smooths}: data.sample(16_384, random_state=1) is a part of them that fits"
+
+
 # What is said of a fault by the table, by the fault's name.
 _BY_TABLE = {
+    "TooManyRows": _too_many_rows,
     "DoubleName": _in_header,
     "EmptyName": _in_header,
     "UnknownName": _unknown_name,

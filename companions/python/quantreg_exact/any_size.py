@@ -10,6 +10,7 @@ import math
 from dataclasses import dataclass, replace
 from fractions import Fraction
 
+from .designs import response_name
 from .faults import QuantregError
 from .linear import solved
 from .model import Model
@@ -28,24 +29,24 @@ def note(fault: QuantregError) -> str:
 def ranks_of(fit, fault: QuantregError) -> RanksReport:
     """The report of `ranks` from the process over all quantiles."""
     scores = tuple(ProcessReport.wilcoxon(fit))
-    return RanksReport(fit.records, fit.dropped, fit.names, fit.pivots, scores, notes=(note(fault),))
+    return RanksReport(fit.records, fit.dropped, fit.told_names, fit.pivots, scores, notes=(note(fault),))
 
 
 def test_of(full, tested, fault: QuantregError) -> TestReport:
     """The report of `test` from the process of the columns that aren't tested, which is fitted here. `full` has all columns."""
     lesser = _Lesser.of(full, [column - 1 for column in tested])
     process = lesser.model(lesser.response).answer("process", lo=0, hi=1)
-    return replace(rank_test_of_process(process, full, tested), notes=(note(fault),))
+    return replace(rank_test_of_process(process, full, tested), names=full.told_names, notes=(note(fault),))
 
 
 def predictions_of(fit, fault: QuantregError) -> PredictReport:
     """The report of `predict` from the process over its range, for the records of the table that lack a response."""
     table, meaning, found = fit.table, fit.meaning, []
     for record in range(table.records):
-        if not table.has(record, [fit.response_name]) and table.has(record, meaning.variables):
+        if not table.has(record, [response_name(fit.model.told)]) and table.has(record, meaning.variables):
             steps = fit.steps(meaning.row(table, record), meaning.offset(table, record))
             found.append(Prediction(record + 1, tuple(steps), tuple(rearrange(steps))))
-    return PredictReport(fit.records, fit.dropped, fit.names, fit.pivots, tuple(found), notes=(note(fault),))
+    return PredictReport(fit.records, fit.dropped, fit.told_names, fit.pivots, tuple(found), notes=(note(fault),))
 
 
 def intervals_of(fit, tau: Fraction, crit: Fraction, fault: QuantregError) -> tuple[list[Interval], list[str]]:

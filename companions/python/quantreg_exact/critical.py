@@ -5,7 +5,7 @@ from dataclasses import dataclass
 from fractions import Fraction
 from statistics import NormalDist
 
-from .numbers import Number, as_fraction, shown, simplest_between
+from .numbers import Number, as_place, shown, simplest_between
 
 # A critical value is within this share of the square that it stands for: they agree to five digits.
 AGREEMENT = Fraction(1, 100_000)
@@ -44,7 +44,7 @@ def critical_value(alpha: float, degrees: int | None = None) -> Critical:
 
 def given_critical(crit: Number) -> Critical:
     """A critical value as it is given, with the level that it has by the normal distribution."""
-    value = as_fraction(crit)
+    value = as_place(crit)
     return Critical(value, math.erfc(math.sqrt(max(value, 0) / 2)))
 
 

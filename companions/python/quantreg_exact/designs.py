@@ -43,6 +43,17 @@ class Table:
         csv.writer(text).writerows([list(self.cells), *([column[record] for column in self.cells.values()] for record in order)])
         return text.getvalue().encode("utf-8")
 
+    def as_bytes(self):
+        """The bytes of the table."""
+        return self.in_order(range(self.records))
+
+    def with_columns(self, columns):
+        """The table with more columns of cells, by their names."""
+        if not columns:
+            return self
+        numeric = {name for name, column in columns.items() if all(_is_missing(it) or _is_numeric(it) for it in column)}
+        return Table(self.cells | columns, self.records, self.numeric | numeric)
+
     def has(self, record, columns):
         """Whether no cell of the record is missing in these columns."""
         return not any(_is_missing(self.cells[name][record]) for name in columns)
@@ -59,20 +70,22 @@ class Table:
 
     def kept(self, fit, variables):
         """The records that were fitted, from 0."""
-        used = [response_name(fit.formula), *variables, *([fit.weights] if fit.weights else [])]
+        weights = fit.model.told_weights
+        used = [response_name(fit.model.told), *variables, *([weights] if weights else [])]
         kept = [record for record in range(self.records) if self.has(record, used)]
-        if fit.weights:
-            kept = [record for record in kept if self.number(record, fit.weights) != 0]
+        if weights:
+            kept = [record for record in kept if self.number(record, weights) != 0]
         if len(kept) != fit.records:
             raise ValueError(f"the table has {len(kept)} records for this fit, and the report {fit.records}")
         return kept
 
     def weights(self, fit):
         """The weight of each kept record."""
-        return [self.number(record, fit.weights) if fit.weights else Fraction(1) for record in fit.meaning.kept]
+        weights = fit.model.told_weights
+        return [self.number(record, weights) if weights else Fraction(1) for record in fit.meaning.kept]
 
     def response(self, fit):
-        name = response_name(fit.formula)
+        name = response_name(fit.model.told)
         return [self.number(record, name) for record in fit.meaning.kept]
 
 
@@ -173,13 +186,13 @@ def _coded(coding, column, level, levels):
 
 
 class Names:
-    """What the names of a fit's columns mean over its table."""
+    """What the names of a fit's columns mean over its table, both as the program is told them."""
 
     def __init__(self, fit):
-        self.fit, self.table = fit, fit.table
-        self.formula = Parts.of(fit.formula)
+        self.fit, self.table, self.decoded = fit, fit.table, fit.model.decoded
+        self.formula = Parts.of(fit.model.told)
         self.candidates = self._candidates()
-        self.parts = [self._of_name(name) for name in fit.names]
+        self.parts = [self._of_name(name) for name in fit.told_names]
         used = [part.variable.columns for parts in self.parts for part in parts] + [it.names for it in self.formula.offsets]
         self.variables = list(dict.fromkeys(column for columns in used for column in columns))
         self.kept = self.table.kept(fit, self.variables)
@@ -219,7 +232,7 @@ class Names:
             return [_Part(_Variable(knot["name"], name, True, True), Fraction(knot["knot"]))]
         found = self._products(name)
         if len(found) != 1:
-            raise ValueError(f"the column {name!r} can be read in {len(found)} ways over this table")
+            raise ValueError(f"the column {self.decoded(name)!r} can be read in {len(found)} ways over this table")
         return found[0]
 
     def _products(self, text):
@@ -250,7 +263,7 @@ class Names:
         if name in self.fit.names:
             return [self.fit.names.index(name) + 1]
         wanted = sorted(name.split(":"))
-        labels = [sorted(part.variable.label for part in parts) for parts in self.parts]
+        labels = [sorted(self.decoded(part.variable.label) for part in parts) for parts in self.parts]
         found = [number for number, label in enumerate(labels, 1) if label == wanted]
         if not found:
             raise ValueError(f"the design has no column and no variable {name!r}; its columns are {', '.join(self.fit.names)}")
@@ -261,7 +274,10 @@ class Names:
         for parts in self.parts:
             entry = Fraction(1)
             for part in parts:
-                entry *= part.entry(table, record, self.levels, self.fit.contrasts)
+                try:
+                    entry *= part.entry(table, record, self.levels, self.fit.contrasts)
+                except ValueError as error:
+                    raise ValueError(self.decoded(str(error))) from None
             row.append(entry)
         return row
 
@@ -284,7 +300,7 @@ def _records(fit, table):
         return names.kept
     absent = [name for name in names.variables if name not in table.cells]
     if absent:
-        raise ValueError(f"the new data have no column {', '.join(absent)}")
+        raise ValueError(f"the new data have no column {', '.join(map(names.decoded, absent))}")
     return [record if table.has(record, names.variables) else None for record in range(table.records)]
 
 

@@ -12,11 +12,20 @@ from .critical import Critical, critical_value
 from .designs import Names, Table, design_rows, offset_values, response_name
 from .faults import QuantregError
 from .linear import solved
-from .model import Model, table_bytes
-from .numbers import Number, as_fraction, as_list, shown
+from .model import Model
+from .numbers import Number, as_list, as_place, label, shown
 from .reports import PathReport, ProcessReport, RanksReport, TestReport
 
 QUARTILES = (Fraction(1, 4), Fraction(1, 2), Fraction(3, 4))
+
+
+class Summary(pandas.DataFrame):
+    """A data frame of a summary, which prints all of its columns, and the critical value behind them."""
+
+    def __repr__(self):
+        critical = self.attrs.get("critical")
+        text = self.to_string(line_width=pandas.get_option("display.width"))
+        return f"{text}\nrank intervals of the critical value {critical}" if critical else text
 
 
 class OfTable:
@@ -26,10 +35,18 @@ class OfTable:
     """
 
     formula = property(lambda self: self.model.formula, doc="The formula.")
-    table = property(lambda self: self.model.table, doc="The table as text.")
+    table = property(lambda self: self.model.table, doc="The table as text, as the program was told it.")
+    told_names = property(lambda self: self.told or self.names, doc="The names of the columns as the program was told them.")
     weights = property(lambda self: self.model.weights, doc="The name of the column of weights, or None.")
     contrasts = property(lambda self: self.model.contrasts or "treatment", doc="The coding of factors.")
-    response_name = property(lambda self: response_name(self.formula), doc="The name of the response.")
+    response_name = property(lambda self: self.model.decoded(response_name(self.model.told)), doc="The name of the response.")
+
+    @classmethod
+    def of(cls, report, model, **more):
+        """A report together with its model, by the names of the table."""
+        names = tuple(map(model.decoded, report.names))
+        told = {"told": report.names} if names != report.names else {}
+        return cls(**(vars(report) | {"names": names}), **told, model=model, **more)
 
     def __getstate__(self):
         # What is worked out again when it is asked for isn't sent to another process.
@@ -56,7 +73,11 @@ class OfTable:
         return offset_values(self, self._table_of(newdata))
 
     def _table_of(self, newdata):
-        return self.table if newdata is None else Table.of_bytes(table_bytes(newdata))
+        if newdata is None:
+            return self.table
+        if self.model.telling is None:
+            raise ValueError("new data need a fit of a table")
+        return self.model.telling.table_of(newdata, self.meaning.variables)
 
     def _sums(self, table, place, side):
         """Entries times coefficients plus the offsets, for each row of `design`."""
@@ -89,6 +110,7 @@ class Fit(OfTable, ProcessReport):
     """
 
     model: Model
+    told: tuple = field(default=(), kw_only=True, compare=False)
     critical: Critical | None = field(default=None, kw_only=True)
 
     def summed_up(self):
@@ -103,10 +125,11 @@ class Fit(OfTable, ProcessReport):
 
     def penalty_bounds(self) -> list[Fraction]:
         """The lambda of each penalty row, smooth by smooth."""
-        tokens, bounds = Parts.of(self.formula).tokens, []
+        tokens, bounds = Parts.of(self.model.told).tokens, []
         for at, token in enumerate(tokens[:-4]):
             if token["name"] == "qss" and tokens[at + 1]["open"]:
-                knots = sum(name.startswith(f"qss({name_of(tokens[at + 2])})[") for name in self.names) + ("(Intercept)" in self.names)
+                smooth = f"qss({name_of(tokens[at + 2])})["
+                knots = sum(name.startswith(smooth) for name in self.told_names) + ("(Intercept)" in self.names)
                 bound = Fraction(tokens[at + 4]["number"])
                 bounds += [bound] * (knots - 2 if bound else 0)
         return bounds
@@ -127,7 +150,7 @@ class Fit(OfTable, ProcessReport):
         fitted exactly and there are no smooths, the fit moves along the rows of the basis but that one, to the first row
         that it then meets.
         """
-        tau, segments = as_fraction(tau), self.segments_at(tau)
+        tau, segments = as_place(tau), self.segments_at(tau)
         if segments[0].coef != segments[-1].coef:
             return dict(zip(self.names, segments[-1].coef))
         for segment in segments:
@@ -163,14 +186,14 @@ class Fit(OfTable, ProcessReport):
 
         Where the program ends with status 7 each is worked out here, and one that can't be is missing: `notes` say so.
         """
-        tau = as_fraction(tau)
+        tau = as_place(tau)
         asked = {"lo": tau, "hi": tau, "crit": critical.value, "rank_at": tau}
         try:
-            return Fit(**vars(self.model.answer("process", **asked)), model=self.model, critical=critical)
+            return Fit.of(self.model.answer("process", **asked), self.model, critical=critical)
         except QuantregError as fault:
             if not (fault.is_overflow and fault.fields.get("place", "").startswith("interval:")):
                 raise
-            bare = Fit(**vars(self.model.answer("process", lo=tau, hi=tau)), model=self.model, critical=critical)
+            bare = Fit.of(self.model.answer("process", lo=tau, hi=tau), self.model, critical=critical)
             found, said = any_size.intervals_of(bare, tau, critical.value, fault)
             return replace(bare, intervals=tuple(found), notes=tuple(said))
 
@@ -190,18 +213,20 @@ class Fit(OfTable, ProcessReport):
         if tau is None:
             low, high = self.segments[0].lo, self.segments[-1].hi
             tau = [low] if low == high else [it for it in QUARTILES if low <= it <= high]
-        return joined({it: self._summary(it, alpha, tcrit) for it in map(as_fraction, as_list(tau))})
+        return joined({it: self._summary(it, alpha, tcrit) for it in map(as_place, as_list(tau))})
 
     def _summary(self, tau, alpha, tcrit):
         """The summary at one quantile, with warnings."""
         columns, attrs, said = {"coefficient": self.coef_at(tau)}, {}, notes.at_quantile(self, tau)
+        if alpha is None and tcrit:
+            raise ValueError("tcrit asks for a critical value of intervals, and with alpha=None there are none")
         if alpha is not None:
             critical = critical_value(alpha, self.records - len(self.names) if tcrit else None)
             tested = self.rank_intervals(tau, critical)
             columns["lower"] = {self.names[it.column - 1]: it.low for it in tested.intervals}
             columns["upper"] = {self.names[it.column - 1]: it.high for it in tested.intervals}
             attrs, said = {"critical": str(critical)}, [*said, *tested.notes]
-        frame = pandas.DataFrame({key: _floats(values) for key, values in columns.items()}, index=list(self.names))
+        frame = Summary({key: _floats(values) for key, values in columns.items()}, index=list(self.names))
         for key, values in columns.items():
             frame["fraction" if key == "coefficient" else f"{key}_fraction"] = pandas.Series(values, dtype=object)
         frame.attrs = attrs | {"notes": said}
@@ -214,7 +239,7 @@ def joined(frames: dict) -> pandas.DataFrame:
     first = next(iter(frames.values()))
     if len(frames) == 1:
         return first
-    whole = pandas.concat({str(tau): frame for tau, frame in frames.items()}, names=["quantile", "column"])
+    whole = Summary(pandas.concat({label(tau): frame for tau, frame in frames.items()}, names=["quantile", "column"]))
     whole.attrs = first.attrs | {"notes": [note for frame in frames.values() for note in frame.attrs["notes"]]}
     return whole
 
@@ -228,6 +253,7 @@ class RanksFit(OfTable, RanksReport):
     """A report of `ranks` together with the model that was fitted."""
 
     model: Model
+    told: tuple = field(default=(), kw_only=True, compare=False)
 
 
 @dataclass(frozen=True, repr=False)
@@ -238,6 +264,7 @@ class TestFit(OfTable, TestReport):
     """
 
     model: Model
+    told: tuple = field(default=(), kw_only=True, compare=False)
     order_statistics: tuple = field(default=(), kw_only=True)
 
     @property
@@ -262,6 +289,7 @@ class PathFit(OfTable, PathReport):
 
     model: Model
     tau: Fraction
+    told: tuple = field(default=(), kw_only=True, compare=False)
 
     def check(self) -> None:
         """Works out from the table that no coefficients have a lesser loss at any lambda of the range.

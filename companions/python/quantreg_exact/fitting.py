@@ -9,7 +9,7 @@ from .critical import Critical, critical_value, given_critical
 from .faults import QuantregError
 from .fits import Fit, PathFit, RanksFit, TestFit
 from .model import Model
-from .numbers import Number, as_fraction, as_list, is_list
+from .numbers import Number, as_list, as_place, is_list
 from .reports import PredictReport
 from .several import Fits
 
@@ -28,6 +28,7 @@ def fit(
     alpha: float | None = None,
     crit: Number | None = None,
     rank_at=None,
+    digits: int | None = None,
     program=None,
 ) -> Fit | Fits:
     """The fits of a formula over the quantiles from `lo` to `hi`, at `lo` alone, or at each of a list `lo`.
@@ -37,14 +38,14 @@ def fit(
     value as it is, by `crit`; `rank_at` has one quantile or several for them, where it isn't given `lo` alone, or the tenths within the range.
     Raises QuantregError with the program's fault line, and advice, where there is no report.
     """
-    model = Model.of(formula, data, weights, contrasts, pivots, program)
+    model = Model.of(formula, data, weights, contrasts, pivots, program, digits)
     critical = _critical(alpha, crit)
     if is_list(lo):
         if hi is not None or rank_at is not None:
             raise ValueError("a list of quantiles has its rank intervals at each of them, and no high end")
         return Fits(tuple(_fit(model, tau, tau, critical, [tau] if critical else None) for tau in lo))
     if critical and rank_at is None:
-        rank_at = lo if hi is None else _tenths(as_fraction(lo), as_fraction(hi))
+        rank_at = lo if hi is None else _tenths(as_place(lo), as_place(hi))
     return _fit(model, lo, lo if hi is None else hi, critical, rank_at)
 
 
@@ -65,14 +66,14 @@ def _fit(model: Model, lo: Number, hi: Number, critical: Critical | None, rank_a
     """The fit of a range with notes and warnings; rank intervals that overflow are worked out one by one."""
     asked = {"crit": critical and critical.value, "rank_at": rank_at}
     try:
-        found = Fit(**vars(model.answer("process", lo=lo, hi=hi, **asked)), model=model, critical=critical)
+        found = Fit.of(model.answer("process", lo=lo, hi=hi, **asked), model, critical=critical)
     except QuantregError as fault:
         if not (fault.is_overflow and fault.fields.get("place", "").startswith("interval:")):
             raise
-        bare = Fit(**vars(model.answer("process", lo=lo, hi=hi)), model=model, critical=critical)
+        bare = Fit.of(model.answer("process", lo=lo, hi=hi), model, critical=critical)
         each = [bare.rank_intervals(tau, critical) for tau in _listed(rank_at)]
         found = replace(bare, intervals=tuple(it for one in each for it in one.intervals), notes=tuple(it for one in each for it in one.notes))
-    return _noted(found, [*notes.of_table(model, found.names), *notes.of_uniqueness(found)])
+    return _noted(found, [*notes.of_table(model, found.told_names), *notes.of_uniqueness(found)])
 
 
 def _noted(found, said):
@@ -82,19 +83,19 @@ def _noted(found, said):
     return found
 
 
-def ranks(formula: str, data, *, weights=None, contrasts=None, pivots=None, program=None) -> RanksFit:
+def ranks(formula: str, data, *, weights=None, contrasts=None, pivots=None, digits=None, program=None) -> RanksFit:
     """The Wilcoxon scores of a formula by the job `ranks`, or from its process where the program ends with status 7."""
-    model = Model.of(formula, data, weights, contrasts, pivots, program)
+    model = Model.of(formula, data, weights, contrasts, pivots, program, digits)
     try:
         report = model.answer("ranks")
     except QuantregError as fault:
         report = _rescued(fault, lambda cause: any_size.ranks_of(_whole(model, 0, 1), cause))
-    found = RanksFit(**vars(report), model=model)
-    return _noted(found, [*notes.of_table(model, found.names), *notes.of_ties(found)])
+    found = RanksFit.of(report, model)
+    return _noted(found, [*notes.of_table(model, found.told_names), *notes.of_ties(found)])
 
 
 def _whole(model, lo, hi):
-    return Fit(**vars(model.answer("process", lo=lo, hi=hi)), model=model)
+    return Fit.of(model.answer("process", lo=lo, hi=hi), model)
 
 
 def _rescued(fault, make):
@@ -116,6 +117,7 @@ def rank_test(
     contrasts: str | None = None,
     pivots: int | None = None,
     orders: int = 0,
+    digits: int | None = None,
     program=None,
 ) -> TestFit:
     """The rank test that the columns `tested` of a formula's design have coefficients 0, by the job `test`.
@@ -125,13 +127,13 @@ def rank_test(
     worked out from the process of the other columns. Where responses are tied, it may depend on the order of the records:
     with `orders` the test is made in so many orders, the table's own and others drawn by chance from a fixed start.
     """
-    model = Model.of(formula, data, weights, contrasts, pivots, program)
+    model = Model.of(formula, data, weights, contrasts, pivots, program, digits)
     tested = _numbers_of(model, tested)
-    found = TestFit(**vars(_test(model, tested)), model=model)
+    found = TestFit.of(_test(model, tested), model)
     if orders:
         others = [_test(_shuffled(model, seed), tested).statistic for seed in range(1, orders)]
         found = replace(found, order_statistics=(found.statistic, *others))
-    return _noted(found, [*notes.of_table(model, found.names), *notes.of_ties(found)])
+    return _noted(found, [*notes.of_table(model, found.told_names), *notes.of_ties(found)])
 
 
 def _test(model, tested):
@@ -161,7 +163,7 @@ def _shuffled(model, seed):
     return replace(model, source=model.table.in_order(random.Random(seed).sample(range(model.table.records), model.table.records)))
 
 
-def predictions(formula: str, data, lo, hi=None, *, weights=None, contrasts=None, pivots=None, program=None) -> PredictReport:
+def predictions(formula: str, data, lo, hi=None, *, weights=None, contrasts=None, pivots=None, digits=None, program=None) -> PredictReport:
     """The predictions of the records of `data` whose response is missing, by the job `predict`.
 
     For each of them, 1 to 64, the steps over the quantiles from `lo` to `hi` and their rearrangement, which is worked out from the
@@ -169,21 +171,22 @@ def predictions(formula: str, data, lo, hi=None, *, weights=None, contrasts=None
     back from the names of its columns.
     """
     hi = lo if hi is None else hi
-    model = Model.of(formula, data, weights, contrasts, pivots, program)
+    model = Model.of(formula, data, weights, contrasts, pivots, program, digits)
     try:
         report = model.answer("predict", lo=lo, hi=hi)
     except QuantregError as fault:
         report = _rescued(fault, lambda cause: any_size.predictions_of(_whole(model, lo, hi), cause))
-    return _noted(report, notes.of_table(model, report.names))
+    said = notes.of_table(model, report.names)
+    return _noted(replace(report, names=tuple(map(model.decoded, report.names))), said)
 
 
-def path(formula: str, data, tau, lo, hi=None, *, weights=None, contrasts=None, pivots=None, program=None) -> PathFit:
+def path(formula: str, data, tau, lo, hi=None, *, weights=None, contrasts=None, pivots=None, digits=None, program=None) -> PathFit:
     """The fits at the quantile `tau` for every lambda from `lo` to `hi`, or at `lo` alone, by the job `path`.
 
     They minimise the check loss plus lambda times the sum of the absolute coefficients, the intercept's apart. Lambda is above
     0, and half of what `rq(.., method = "lasso")` in R calls so.
     """
-    model = Model.of(formula, data, weights, contrasts, pivots, program)
+    model = Model.of(formula, data, weights, contrasts, pivots, program, digits)
     report = model.answer("path", tau=tau, lo=lo, hi=lo if hi is None else hi)
-    found = PathFit(**vars(report), model=model, tau=as_fraction(tau))
-    return _noted(found, notes.of_table(model, found.names))
+    found = PathFit.of(report, model, tau=as_place(tau))
+    return _noted(found, notes.of_table(model, found.told_names))

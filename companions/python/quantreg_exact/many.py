@@ -9,7 +9,7 @@ from fractions import Fraction
 from .faults import QuantregError
 from .fits import Fit
 from .fitting import fit
-from .numbers import Number, as_fraction
+from .numbers import Number, as_place
 from .stretches import Segment
 
 # A range is cut at multiples of one such part of it, and so not at its simple fractions, where segments end most often.
@@ -74,7 +74,7 @@ def fit_parts(
     the ranges on both sides are fitted again as one; and so is the whole range, with a note, where a part ends with status 7, since
     the numbers at a cut are longer than others.
     """
-    lo, hi = as_fraction(lo), as_fraction(hi)
+    lo, hi = as_place(lo), as_place(hi)
     if not (lo < hi and 1 <= parts < _FINENESS):
         raise ValueError(f"a range of quantiles from `lo` to a greater `hi`, in 1 to {_FINENESS - 1} parts")
     cuts = [lo + (hi - lo) * Fraction(at * _FINENESS // parts, _FINENESS) for at in range(parts)] + [hi]

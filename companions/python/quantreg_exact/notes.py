@@ -22,46 +22,34 @@ def warn(notes) -> None:
 
 def of_table(model, names) -> list[str]:
     """On the cells and the levels of the columns that a fit takes; `names` are those of its design's columns."""
-    table, notes, known = model.table, [], beside_the_design(model.formula) | {model.weights}
-    for column in used_columns(model.formula, table.cells, model.weights):
+    table, notes, known = model.table, [*model.telling.notes], beside_the_design(model.told) | {model.told_weights}
+    for column in used_columns(model.told, table.cells, model.told_weights):
         if column in known or any(column in name for name in names):
-            notes += [it for it in (_mixed(table, column), _ratios(model, column), _levels(model, column)) if it]
+            notes += [model.decoded(it) for it in (_mixed(model, column), _ratios(model, column)) if it]
     return notes
 
 
-def _mixed(table, column):
+def _mixed(model, column):
     """That a factor has more numbers than texts."""
+    table = model.table
     if column in table.numeric:
         return None
-    texts = len(table.texts(column))
-    numbers = sum(table.has(record, [column]) for record in range(table.records)) - texts
-    if not 0 < texts <= numbers:
+    cells = [model.telling.level_of(column, it) for it in table.cells[column]]
+    there = [cell for record, cell in enumerate(cells) if table.has(record, [column])]
+    texts = sum(not is_number_text(cell.strip(" \t")) for cell in there)
+    if not 0 < texts <= len(there) - texts:
         return None
-    return f"{column} is a factor, since it has texts in {texts} of {texts + numbers} cells: {no_numbers(table, column)}"
+    return f"{column} is a factor, since it has texts in {texts} of {len(there)} cells: {no_numbers(model, column)}"
 
 
 def _ratios(model, column):
     """That cells such as 1/86 are fractions, where they didn't come as such."""
     cells = [cell.strip(" \t") for cell in model.table.cells[column]]
     ratios = [cell for cell in cells if "/" in cell]
-    if column not in model.table.numeric or not ratios or column in model.types.fractions:
+    if column not in model.table.numeric or not ratios or column in model.telling.fractions:
         return None
     value = model.table.number(next(at for at, cell in enumerate(cells) if "/" in cell), column)
     return f"{column} has fractions in {len(ratios)} of {len(cells)} cells: {ratios[0]} is read as {shown(value)}"
-
-
-def _levels(model, column):
-    """That the order of a categorical column's levels isn't known to the program, or that they are numbers there."""
-    cells = set(model.table.cells[column])
-    given = [level for level in model.types.categories.get(column, ()) if level in cells]
-    if not given:
-        return None
-    if all(is_number_text(level) for level in given):
-        return f"the categories of {column} are numbers, so that it is a column of numbers: factor({column}) makes a factor of it"
-    known = sorted(given, key=lambda level: level.encode())
-    if given == known:
-        return None
-    return f"the levels of {column} are sorted by bytes, {listed(known)}, and not as its categories are, {listed(given)}"
 
 
 def of_uniqueness(fit) -> list[str]:

@@ -10,7 +10,7 @@ from fractions import Fraction
 import pandas
 
 from .critical import chi_squared_tail
-from .numbers import Number, as_fraction, decimal_text, listed, shown
+from .numbers import Number, as_fraction, as_place, decimal_text, listed, shown
 from .stretches import Segment, Step, Stretches, rearrange, steps_frame
 
 
@@ -48,7 +48,7 @@ class ProcessReport(Report, Stretches):
 
     def scores_at(self, tau: Number, side: str = "lower") -> list[Fraction]:
         """The rankscores of the data rows at a quantile, by row."""
-        segment, tau = self.segment_at(tau, side), as_fraction(tau)
+        segment, tau = self.segment_at(tau, side), as_place(tau)
         outside = {"0": Fraction(0), "1": Fraction(1)}
         marks = enumerate(segment.marks[: self.data], 1)
         return [segment.between(tau, segment.basic[row]) if mark == "*" else outside[mark] for row, mark in marks]
@@ -61,7 +61,7 @@ class ProcessReport(Report, Stretches):
         coefficients meet there, and None where the report doesn't tell. The bounds of a penalty row are its lambda, which no
         report has and of which that law says nothing: `penalty_bounds` has one for each penalty row.
         """
-        tau, segments = as_fraction(tau), self.segments_at(tau)
+        tau, segments = as_place(tau), self.segments_at(tau)
         if len({segment.coef for segment in segments}) > 1:
             return False
         if any(self.is_strict(segment, tau, penalty_bounds) for segment in segments):
@@ -300,7 +300,7 @@ class PathReport(Report, Stretches):
 
     def dual_at(self, lam: Number, side: str = "lower") -> dict[int, Fraction]:
         """The dual values of the basis at a lambda, by row."""
-        segment, lam = self.segment_at(lam, side), as_fraction(lam)
+        segment, lam = self.segment_at(lam, side), as_place(lam)
         return {row: segment.between(lam, ends) for row, ends in segment.dual.items()}
 
 

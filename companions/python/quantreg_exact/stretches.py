@@ -7,7 +7,7 @@ from fractions import Fraction
 
 import pandas
 
-from .numbers import Number, as_fraction, shown
+from .numbers import Number, as_place, shown
 
 
 @dataclass(frozen=True)
@@ -117,7 +117,7 @@ class Stretches:
 
     def segments_at(self, place: Number) -> list[Stretch]:
         """The segments that hold a place: one, or the two that meet there. Raises ValueError outside the range."""
-        place = as_fraction(place)
+        place = as_place(place)
         if not self.segments[0].lo <= place <= self.segments[-1].hi:
             raise ValueError(f"{place} is outside the range {self.segments[0].lo} to {self.segments[-1].hi}")
         at = bisect_left(self.segments, place, key=lambda segment: segment.hi)
@@ -137,7 +137,7 @@ class Stretches:
         """A place as it is given, or the only one of the range; ValueError where there are more."""
         if place is None and self.segments[0].lo != self.segments[-1].hi:
             raise ValueError("the fits are of a range: name a place of it")
-        return as_fraction(self.segments[0].lo if place is None else place)
+        return as_place(self.segments[0].lo if place is None else place)
 
     def range_text(self, place: str) -> str:
         """The range in words: the coefficients where it is one place, else how many segments it has."""
@@ -149,7 +149,7 @@ class Stretches:
     def loss_at(self, place: Number) -> Fraction:
         """The loss of the fit at a place, penalties included."""
         segment = self.segment_at(place)
-        return segment.between(as_fraction(place), segment.loss)
+        return segment.between(as_place(place), segment.loss)
 
     def to_frame(self) -> pandas.DataFrame:
         """The coefficients as floats: a row for each segment, indexed by its ends, and a column for each name."""

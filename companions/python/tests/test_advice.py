@@ -41,24 +41,28 @@ class ByTheProgram(unittest.TestCase):
             ("y ~ `größe` + incme", "UnknownName", "there is no column 'incme'; did you mean 'income'?"),
             ("y ~ I(`grösse` + 1)", "UnknownName", "there is no column 'grösse'; did you mean 'größe'?"),
             ("y ~ zzz", "UnknownName", "there is no column 'zzz'"),
-            ("y ~ log(income)", "Syntax", "there is no function log( )"),
-            ("y ~ I(income / 2)", "Syntax", "'/' can't stand behind 'y ~ I(income'; there is no division"),
+            ("y ~ grösse", "UnknownName", "there is no column 'grösse'; did you mean 'größe'?"),
+            ("zzz ~ income", "UnknownName", "there is no column 'zzz'"),
+            ("y ~ income / 2", "Syntax", "'/' can't stand behind 'y ~ income'; there is no division of terms"),
             ("y ~ income +", "Syntax", "the formula ends where more should stand"),
-            ("~ income", "Syntax", "'~' can't stand at the beginning"),
+            ("~ income", "Syntax", "'~' can't stand at the beginning; a formula is as in 'y ~ x'"),
+            ("income", "Syntax", "the formula ends where more should stand; a formula is as in 'y ~ x'"),
         ]:
             self.told(name, wanted, fit, formula, TABLE, "1/2")
         self.assertNotIn("did you mean", fault_of(fit, "y ~ zzz", TABLE, "1/2").advice)
 
     def test_the_cells_and_levels_of_a_table(self):
-        texts = pandas.DataFrame({"y": ["1", "two", "3"], "x": [1, 2, 3], "w": ["1", "-", "2"]})
+        texts = pandas.DataFrame({"y": ["1", "two", "3"], "x": [1, 2, 3], "w": ["1", "-", "2"], "t": ["4", "9", "5"]})
         many = pandas.DataFrame({"y": range(150), "f": [f"t{it}" for it in range(150)]})
         for table, formula, options, name, wanted in [
             (texts, "y ~ x", {}, "ResponseNotNumeric", "the response y is no column of numbers: record 2 has 'two'"),
+            (texts, "t ~ x", {}, "ResponseNotNumeric", "the response t is no column of numbers: it has texts, as '4' in record 1; pandas.to_numeric makes"),
             (texts, "x ~ 1", {"weights": "w"}, "WeightNotNumeric", "the weights w are no column of numbers: record 2 has '-'"),
             (texts, "x ~ I(2*w)", {}, "ArithNotNumeric", "w is no column of numbers: record 2 has '-'"),
             (texts, "x ~ 1", {"weights": "v"}, "UnknownWeights", "there is no column 'v' for the weights"),
             (many, "y ~ f", {}, "TooManyColumns", "the factor f has 150 levels"),
             (TABLE.assign(f="a"), "y ~ f", {}, "OneLevel", "the factor f has one level among the records that are kept (in the table it has 'a')"),
+            (TABLE[:0], "y ~ income", {}, "NoRows", "the table has no records"),
             (TABLE.assign(income=None), "y ~ income", {}, "NoRows", "of 4 records none has all cells; missing are 4 of income"),
             (TABLE.assign(z=2 * TABLE.income), "y ~ income + z", {}, "Dependent", "-2 times column 2 plus 1 times column 3 is 0 in every record"),
         ]:
@@ -91,6 +95,12 @@ class ByTheProgram(unittest.TestCase):
                 file = Path(room) / "table.csv"
                 file.write_bytes(source)
                 self.told(name, wanted, fit, "y ~ 1", file, "1/2")
+
+    def test_too_many_records(self):
+        many = pandas.DataFrame({"y": range(16_385), "x": [None] * 2 + [1] * 16_383})
+        self.told("TooManyRows", "the table has 16,385 records, and the program takes 16,384: data.sample(16_384", fit, "y ~ 1", many, "1/2")
+        wanted = "the table has 16,385 records, and the program takes 16,384: 16,383 of them have all cells that are used, and dropna()"
+        self.told("TooManyRows", wanted, fit, "y ~ x", many, "1/2")
 
     def test_options(self):
         for call, words, options, name, wanted in [
@@ -128,6 +138,15 @@ class Others(unittest.TestCase):
         fault = refused(self.LINE, 7, lambda program: fault_of(fit, "y ~ income", TABLE, "1/2", program=program))
         self.assertTrue(fault.is_overflow)
         self.assertIn("When a run ends with status 7", fault.advice)
+        # No column has more digits than fit.
+        self.assertNotIn("digits fit", fault.advice)
+        long = pandas.DataFrame({"y": [0.1234567, 2, 3, 5], "x": [0.123456789012, 3, 1, 2], "z": [1, 2, 4, 9], "t": [12345, 3, 1, 5]})
+        # The unit of x is 1/250,000,000,000, and 3 is 750,000,000,000 of them.
+        for formula, wanted in [
+            ("y ~ x + z", "With 2 columns beside the intercept some 11 digits fit, and x has 12. Round"),
+            ("y ~ x + z + t + I(t*z) + I(x^2)", "With 3 columns beside the intercept some 8 digits fit, and x has 12. Round"),
+        ]:
+            self.assertIn(wanted, refused(self.LINE, 7, lambda program: fault_of(fit, formula, long, "1/2", program=program)).advice)
         page = (Path(__file__).resolve().parents[3] / "docs/MANUAL.md").read_text()
         self.assertTrue("\n## When a run ends with status 7\n" in page, "the page is named as the advice says")
 

@@ -3,6 +3,7 @@
 The fits are read from texts; by the program itself too where the variable QUANTREG names one.
 """
 
+import tempfile
 import unittest
 from fractions import Fraction as F
 
@@ -38,7 +39,7 @@ end
 """
 
 # Half of x is 0, 1 and 3, and less twice z the responses are 0, 2 and 3: the line of the other tests. The fourth record lacks z.
-SHIFTED = pandas.DataFrame({"y": [2, 2, 2, 2], "x": [0, 2, 6, 1], "z": ["1", "0", "-1/2", None]})
+SHIFTED = pandas.DataFrame({"y": [2, 2, 2, 2], "x": [0, 2, 6, 1], "z": [F(1), F(0), F(-1, 2), None]})
 SHIFT = "y ~ I(0.5*x) + offset(2*z)"
 
 
@@ -107,7 +108,7 @@ class Fits(unittest.TestCase):
         curve = self.curve()
         self.assertEqual(curve.design(), [[1, 0, 0], [1, 1, 1], [1, 2, 4], [1, 4, 16]])
         self.assertEqual((curve.residuals("1/2"), curve.fitted("1/2")), ([0, 1, 0, 0], [0, 1, 4, 16]))
-        self.assertEqual(curve.predict(pandas.DataFrame({"x": ["3", None, "1/2"]}), "1/2"), [9, None, F(1, 4)])
+        self.assertEqual(curve.predict(pandas.DataFrame({"x": [F(3), None, F(1, 2)]}), "1/2"), [9, None, F(1, 4)])
         self.assertEqual(self.curve("y ~ x + I(x ^ 2) + I((x)^2) - I((x)^2)").design(), curve.design())
 
     def test_offsets_are_taken_from_the_response_and_added_to_predictions(self):
@@ -152,7 +153,9 @@ class Fits(unittest.TestCase):
         text = CURVE.replace("records 4", "records 3").replace("data 4", "data 3").replace("column 2 x", "column 2 fb")
         text = text.replace("I(x^2)", "I(fb^2)").replace("coef 1 0\ncoef 2 0", "coef 1 1\ncoef 2 2").replace("loss 1/2 1/2", "loss 0 0")
         text = text[: text.index("scores")] + "scores ***\nbasic 1 1/2 1/2\nbasic 2 1/2 1/2\nbasic 3 1/2 1/2\nend\n"
-        table = pandas.DataFrame({"y": [2, 7, 1], "f": list("aba"), "fb": [1, 2, 0]})
+        # So it is over a file, which the program is told as it stands.
+        table = self.enterContext(tempfile.TemporaryDirectory()) + "/table.csv"
+        pandas.DataFrame({"y": [2, 7, 1], "f": list("aba"), "fb": [1, 2, 0]}).to_csv(table, index=False)
         found = answered(text, lambda program: fit("y ~ f + I(fb^2)", table, "1/2", program=program))
         self.assertEqual(found.design(), [[1, 0, 1], [1, 1, 4], [1, 0, 0]])
 
@@ -174,14 +177,14 @@ class ByTheProgram(unittest.TestCase):
             self.assertEqual(fields(found, type(report)), fields(report, type(report)))
 
     def test_predictions_have_the_offsets(self):
-        table = pandas.concat([SHIFTED, pandas.DataFrame({"y": [None], "x": [8], "z": ["3"]})])
+        table = pandas.concat([SHIFTED, pandas.DataFrame({"y": [None], "x": [8], "z": [F(3)]})])
         (asked,) = predictions(SHIFT, table, 0, 1).predictions
         self.assertEqual(asked.record, 5)
         self.assertEqual(asked.steps, (Step(F(0), F(3, 5), F(10)), Step(F(3, 5), F(1), F(19, 2))))
         self.assertEqual(asked.rearranged, (Step(F(0), F(2, 5), F(19, 2)), Step(F(2, 5), F(1), F(10))))
 
     def test_designs_are_read_back(self):
-        columns = {"y": [1, 4, 2, 8, 5, 7], "x": [1, 2, 3, 4, 6, 5], "z": ["1/2", "1/3", "0", "1", "2", "-1"], "f": list("abcabc")}
+        columns = {"y": [1, 4, 2, 8, 5, 7], "x": [1, 2, 3, 4, 6, 5], "z": [F(1, 2), F(1, 3), F(0), F(1), F(2), F(-1)], "f": list("abcabc")}
         table, powers = pandas.DataFrame(columns), [1, 16, 81, 256, 1296, 625]
         found = fit("y ~ I(x^4) + I(x*z - 3/2) + offset(x - z) + offset(2*z)", table, "1/2")
         self.assertEqual([row[1] for row in found.design()], powers)
@@ -194,7 +197,7 @@ class ByTheProgram(unittest.TestCase):
 
     def test_faults_come_back_with_their_fields(self):
         levels = pandas.DataFrame({"y": [1, 2], "f g": ["a", "b"], "x": [1, 2]})
-        wide = pandas.DataFrame({"y": ["1"], "x": ["1e38"]})
+        wide = pandas.DataFrame({"y": [1], "x": [10**38]})
         spill = {"quantity": "arith-value", "at": (1, 1), "term": 1, "op": "mul", "left": 2, "right": 10**38}
         taken = {"quantity": "offset-response", "at": (1,), "term": 2, "op": "sub", "left": 1 - 10**38, "right": 10**38}
         for formula, table, name, fields in [
@@ -203,8 +206,8 @@ class ByTheProgram(unittest.TestCase):
             ("y ~ I(2*x)", wide, "Overflow", spill),
             ("y ~ offset(x) + offset(x)", wide, "Overflow", taken),
             ("y ~ - offset(x)", levels, "Syntax", {"offset": 6}),
-            ("y ~ I(x/2)", levels, "Syntax", {"offset": 7}),
-            ("y ~ I(x^9)", levels, "PowerRange", {"offset": 8}),
+            ("y ~ x/2", levels, "Syntax", {"offset": 5}),
+            ("y ~ x^9", levels, "PowerRange", {"offset": 6}),
             ("y ~ I(x + w)", levels, "UnknownName", {"offset": 10}),
         ]:
             with self.subTest(formula=formula), self.assertRaises(QuantregError) as caught:

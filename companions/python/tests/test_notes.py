@@ -1,7 +1,9 @@
 """Each warning is given where it should be, and isn't where nothing is amiss."""
 
+import tempfile
 import unittest
 from fractions import Fraction as F
+from pathlib import Path
 
 import pandas
 
@@ -14,8 +16,7 @@ LINE_TABLE = pandas.DataFrame({"y": [0, 2, 3], "x": [0, 1, 3]})
 # R's table `sleep`: the extra hours of ten patients by two drugs.
 SLEEP = pandas.DataFrame(
     {
-        "extra": ["0.7", "-1.6", "-0.2", "-1.2", "-0.1", "3.4", "3.7", "0.8", "0", "2"]
-        + ["1.9", "0.8", "1.1", "0.1", "-0.1", "4.4", "5.5", "1.6", "4.6", "3.4"],
+        "extra": [0.7, -1.6, -0.2, -1.2, -0.1, 3.4, 3.7, 0.8, 0, 2] + [1.9, 0.8, 1.1, 0.1, -0.1, 4.4, 5.5, 1.6, 4.6, 3.4],
         "group": [1] * 10 + [2] * 10,
     }
 )
@@ -23,7 +24,7 @@ SLEEP = pandas.DataFrame(
 
 def statistic_by_ranks(table):
     """The statistic of two groups by plain ranks: of equal responses an earlier record has the higher rank."""
-    responses, groups = [F(it) for it in table["extra"]], list(table["group"])
+    responses, groups = list(table["extra"]), list(table["group"])
     order = sorted(range(len(responses)), key=lambda row: (responses[row], -row))
     ranks_of = {row: rank for rank, row in enumerate(order, 1)}
     count = len(order)
@@ -111,11 +112,18 @@ class OfTables(unittest.TestCase):
                 # A column that the formula leaves out is nobody's concern.
                 self.assertEqual(self.texts_of(table, "y ~ 1"), [])
         self.assertEqual(self.texts_of(pandas.DataFrame(numbers | {"x": list("abcab") + ["1"]})), [])
-        self.assertEqual(self.texts_of(pandas.DataFrame(numbers | {"x": ["NA", "", 1, 2, 3, 5]})), [])
+        # In a column of texts NA is a text, and its record is kept.
+        (text,) = self.texts_of(pandas.DataFrame(numbers | {"x": ["NA", "1", "2", "3", "1", "2"]}))
+        self.assertEqual(text, "x is a factor, since it has texts in 1 of 6 cells: record 1 has 'NA'")
 
     def test_fractions_that_may_be_dates(self):
         responses = {"y": [1, 4, 2, 8]}
-        table = pandas.DataFrame(responses | {"x": ["1/86", "2/86", "3", "5"]})
+        frame = pandas.DataFrame(responses | {"x": ["1/86", "2/86", "3", "3"]})
+        self.assertEqual(
+            self.texts_of(frame), ["x has texts, each of which is a number: it is a factor, as in statsmodels; pandas.to_numeric makes numbers of them"]
+        )
+        table = self.enterContext(tempfile.TemporaryDirectory()) + "/table.csv"
+        Path(table).write_text("y,x\n1,1/86\n4,2/86\n2,3\n8,5\n")
         said = "x has fractions in 2 of 4 cells: 1/86 is read as 0.011628"
         self.assertEqual(self.texts_of(table), [said])
         # So they are as a response, in an offset and as weights, and not where a formula leaves them out.
@@ -124,20 +132,14 @@ class OfTables(unittest.TestCase):
         self.assertEqual(self.texts_of(table, "y ~ 1", lambda *words: fit(*words, weights="x")), [said])
         self.assertEqual(self.texts_of(table, "y ~ . - x"), [])
         self.assertEqual(self.texts_of(pandas.DataFrame(responses | {"x": [F(1, 86), F(2, 86), 3, 5]})), [])
-        self.assertEqual(self.texts_of(pandas.DataFrame(responses | {"x": ["186", "286", "3", "5"]})), [])
+        Path(table).write_text("y,x\n1,186\n4,286\n2,3\n8,5\n")
+        self.assertEqual(self.texts_of(table), [])
 
-    def test_an_order_of_levels_that_the_program_does_not_know(self):
-        def of_levels(levels, cells="LMHLMH"):
-            responses = [1, 4, 2, 8, 5, 7]
-            return pandas.DataFrame({"y": responses, "x": pandas.Categorical(list(cells), categories=levels)})
-
-        said = "the levels of x are sorted by bytes, H, L, M, and not as its categories are, L, M, H"
-        self.assertEqual(self.texts_of(of_levels(["L", "M", "H"])), [said])
-        self.assertEqual(self.texts_of(of_levels(["H", "L", "M"])), [])
-        # A category that no record has is no level.
-        self.assertEqual(self.texts_of(of_levels(["Z", "H", "L", "M"])), [])
-        said = "the categories of x are numbers, so that it is a column of numbers: factor(x) makes a factor of it"
-        self.assertEqual(self.texts_of(of_levels(["1", "2", "3"], "123123")), [said])
+    def test_numbers_in_a_column_of_objects(self):
+        numbers = {"y": [1, 4, 2, 8]}
+        said = "x has numbers alone, in a column of objects: it is read as numbers, where statsmodels has a factor"
+        self.assertEqual(self.texts_of(pandas.DataFrame(numbers | {"x": pandas.Series([3, 1.5, None, 2], dtype=object)})), [said])
+        self.assertEqual(self.texts_of(pandas.DataFrame(numbers | {"x": [F(1, 3), F(2), F(3, 2), None]})), [])
 
     def test_ties_in_the_response(self):
         tied = pandas.DataFrame({"y": [1, 4, 4, 8, 5, 1], "x": [3, 1, 4, 2, 6, 9]})

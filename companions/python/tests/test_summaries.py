@@ -7,6 +7,7 @@ import numpy
 import pandas
 
 from quantreg_exact import Fits, QuantregError, fit, path, predictions, rank_test, ranks, read_report
+from quantreg_exact.numbers import as_place
 
 from stand_ins import ENGEL, STACKLOSS, answered, needs_program, noted
 from test_reports import CERTIFICATE, CHECK, LINE, LINE_PATH, MEDIAN, PREDICT, RANKS, SAMPLE, TEST
@@ -44,9 +45,9 @@ class OfTexts(unittest.TestCase):
     def test_a_summary_without_intervals_has_fractions_and_decimals(self):
         line = answered(LINE, lambda program: fit("y ~ x", TABLE, 0, 1, program=program))
         frame = line.summary(None)
-        self.assertEqual([it[0] for it in frame.index], ["1/4", "1/4", "1/2", "1/2", "3/4", "3/4"])
-        self.assertEqual(frame.loc["3/4"]["fraction"].tolist(), [F(3, 2), F(1, 2)])
-        self.assertEqual(frame.loc["3/4"]["coefficient"].tolist(), [1.5, 0.5])
+        self.assertEqual([it[0] for it in frame.index], ["0.25", "0.25", "0.5", "0.5", "0.75", "0.75"])
+        self.assertEqual(frame.loc["0.75"]["fraction"].tolist(), [F(3, 2), F(1, 2)])
+        self.assertEqual(frame.loc["0.75"]["coefficient"].tolist(), [1.5, 0.5])
 
     def test_numbers_of_any_size_are_read(self):
         digits = "7" * 6000
@@ -104,16 +105,42 @@ class ByTheProgram(unittest.TestCase):
     def test_a_list_of_quantiles(self):
         found = fit("stack.loss ~ .", STACKLOSS, [0.25, "1/2"], alpha=0.1)
         self.assertIsInstance(found, Fits)
-        self.assertEqual((len(found), found.taus, list(found.params)), (2, [F(1, 4), F(1, 2)], ["1/4", "1/2"]))
+        self.assertEqual((len(found), found.taus, list(found.params)), (2, [F(1, 4), F(1, 2)], ["0.25", "0.5"]))
         self.assertEqual(found[1].coef_at("1/2"), fit("stack.loss ~ .", STACKLOSS, 0.5).coef_at("1/2"))
         self.assertEqual([it.tau for it in found[0].intervals], [F(1, 4)] * 4)
         for several in (numpy.array([0.25, 0.5]), pandas.Series(["1/4", "1/2"]), (F(1, 4), 0.5)):
             self.assertEqual(fit("stack.loss ~ .", STACKLOSS, several, alpha=0.1), found)
         self.assertEqual(fit("stack.loss ~ .", STACKLOSS, numpy.array([0.25]), alpha=0.1)[0], found[0])
         frame = found.summary(0.1)
-        self.assertEqual(frame.loc[("1/2", "Air.Flow"), "lower"], 32 / 63)
+        self.assertEqual(frame.loc[("0.5", "Air.Flow"), "lower"], 32 / 63)
         self.assertEqual(found.conf_int(0.1).shape, (8, 2))
+        self.assertEqual(found.names, found[0].names)
+        self.assertEqual(found.predict(STACKLOSS)["0.5"].tolist(), found[1].predict(STACKLOSS))
+        self.assertEqual(found.fitted()["0.25"].tolist(), found[0].fitted())
+        self.assertEqual([sum(it < 0 for it in found.residuals()[label]) for label in ("0.25", "0.5")], [sum(it < 0 for it in one.residuals()) for one in found])
+        shown = str(found.summary(0.1))
+        for column in ("coefficient", "lower", "upper", "fraction", "lower_fraction", "upper_fraction"):
+            self.assertIn(f" {column}", shown)
+        self.assertTrue(shown.endswith("rank intervals of the critical value 441/163 (2.7055, level 90 %)"))
         self.assertTrue(repr(found).startswith("<Fits\n  <Fit stack.loss ~ .: 21 records, quantile 1/4: (Intercept) -36,"))
+
+    def test_ranges_of_numpy_are_read_as_they_are_meant(self):
+        tenths = numpy.arange(0.1, 1, 0.1)
+        self.assertNotEqual(tenths[2], 0.3)
+        table = pandas.DataFrame({"y": [1, 4, 2, 8, 5], "x": [2, 3, 1, 5, 4]})
+        with noted():
+            found = fit("y ~ x", table, tenths)
+        self.assertEqual(found.taus, [F(tenth, 10) for tenth in range(1, 10)])
+        self.assertEqual(list(found.params), ["0.1", "0.2", "0.3", "0.4", "0.5", "0.6", "0.7", "0.8", "0.9"])
+        self.assertEqual(fit("y ~ x", table, ["1/3", "1/8"]).params.columns.tolist(), ["1/3", "0.125"])
+        for value, wanted in [
+            (0.1 + 0.2, F(3, 10)),
+            (numpy.float64(0.7999999999999999), F(4, 5)),
+            # Farther than two units in the last place, or of more digits.
+            (0.3000000000000004, F("0.3000000000000004")),
+            (1 / 3, F("0.3333333333333333")),
+        ]:
+            self.assertEqual(as_place(value), wanted)
 
     def test_columns_are_tested_by_their_names(self):
         table = pandas.DataFrame({"y": [1, 4, 2, 8, 5, 7, 3, 6, 9], "x": [2, 3, 1, 5, 4, 0, 7, 8, 6], "f": list("abcabcabc")})

@@ -13,16 +13,19 @@ verdict <- function(difference, losses, strict) {
 #'
 #' A difference is the greatest one of a coefficient, over 1 or its size where that is more. The loss of rq is that of its
 #' coefficients in the design of R. Offsets, which rq passes over, are taken from the response of both. Needs the package quantreg.
-compare_rq <- function(formula, data = NULL, tau = 0.5, weights = NULL, program = NULL, method = "br") {
+compare_rq <- function(formula, data = NULL, tau = 0.5, weights = NULL, program = NULL, method = "br", ...) {
     if (!requireNamespace("quantreg", quietly = TRUE)) stop("the package quantreg is needed", call. = FALSE)
-    fit <- rq_exact(formula, data, tau, weights, program = program)
+    call <- match.call()
+    call <- call[!names(call) %in% "method"]
+    call[[1]] <- rq_exact
+    fit <- eval(call, parent.frame())
     if (fit$is_process) stop("a comparison is of single quantiles", call. = FALSE)
     design <- design_of(fit)
     y <- design$y - design$offset
     levels <- fraction_value(fit$tau)
     exact <- as.matrix(fit$coefficients)
     rows <- lapply(seq_along(levels), function(at) {
-        inner <- if (is.null(weights)) quantreg::rq.fit(design$x, y, tau = levels[at], method = method)
+        inner <- if (is.null(fit$weights)) quantreg::rq.fit(design$x, y, tau = levels[at], method = method)
             else quantreg::rq.wfit(design$x, y, tau = levels[at], weights = design$weight, method = method)
         theirs <- inner$coefficients
         difference <- max(abs(theirs - exact[, at]) / pmax(1, abs(exact[, at])))

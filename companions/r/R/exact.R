@@ -51,7 +51,7 @@ lesser_of <- function(model, rows, left_out) {
     others <- rows$columns[-left_out]
     names <- paste0("x", seq_along(others), recycle0 = TRUE)
     list(
-        rows = rows, tested = rows$columns[left_out], others = others, formula = stats::as.formula(paste(c("y ~ 0", names), collapse = " + ")),
+        rows = rows, tested = rows$columns[left_out], others = others, asked = paste(c("y ~ 0", names), collapse = " + "),
         table = stats::setNames(lapply(others, as.character), names), weight = as.character(rows$weight), model = model
     )
 }
@@ -60,8 +60,8 @@ lesser_of <- function(model, rows, left_out) {
 lesser_process <- function(lesser, response, lo, hi) {
     table <- as.data.frame(c(list(y = as.character(response), w = lesser$weight), lesser$table))
     asked <- list(
-        formula = lesser$formula, data = table, codes = list(), weights = "w", contrasts = "treatment",
-        pivots_limit = lesser$model$pivots_limit, program = lesser$model$program
+        asked = lesser$asked, data = table, codes = list(), weights_column = "w", contrasts = "treatment", pivots_limit = lesser$model$pivots_limit,
+        program = lesser$model$program
     )
     report_of(asked, "process", list(lo = lo, hi = hi))
 }
@@ -110,12 +110,12 @@ rearranged_steps <- function(steps) {
 
 # The predictions of a table's records without a response, from the process over the range.
 exact_predictions <- function(model, lo, hi) {
-    response <- all.vars(model$formula[[2]])
+    response <- model$response
     records <- unique(report_of(model, "predict", list(lo = lo, hi = lo))$predictions$record)
     process <- report_of(model, "process", list(lo = lo, hi = hi))
     asked <- model$data[records, , drop = FALSE]
     asked[[response]] <- 0
-    if (!is.null(model$weights)) asked[[model$weights]] <- 1
+    if (!is.null(model$weights)) asked[[model$weights_column]] <- 1
     rows <- exact_rows(model, rbind(model$data, asked))
     last <- length(rows$y) - length(records)
     ends <- lapply(c(lo = "lo", hi = "hi"), function(of) vapply(process$segments, `[[`, "", of))

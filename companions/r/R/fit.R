@@ -3,7 +3,8 @@
 # Named texts or doubles of one value for each column, or a matrix with a column for each quantile.
 by_column <- function(values, names, labels) {
     values <- matrix(values, length(names), dimnames = list(names, labels))
-    if (ncol(values) == 1) values[, 1] else values
+    # A matrix of one row and one column would lose both names.
+    if (ncol(values) == 1) stats::setNames(values[, 1], names) else values
 }
 
 # The quantiles that were asked for, as texts, and whether they are all of them, which -1 means as in rq.
@@ -17,21 +18,43 @@ asked_quantiles <- function(tau) {
     list(all = FALSE, tau = unname(text))
 }
 
+# Ends with an error where a call has arguments that its function doesn't take.
+no_others <- function(..., of) {
+    if (!...length()) return(invisible())
+    names <- ...names()
+    named <- names[!is.na(names) & nzchar(names)]
+    told <- if (length(named)) paste0(named, " =", collapse = ", ") else paste(...length(), "more")
+    stop(of, " takes no argument ", told, call. = FALSE)
+}
+
 #' The exact fit of a formula at one quantile or several, or at all of them where tau is -1.
-rq_exact <- function(formula, data = NULL, tau = 0.5, weights = NULL, contrasts = "treatment", pivots = NULL, program = NULL) {
+#'
+#' weights, subset and offset are looked up in the data and then where the formula was made, as in lm.
+rq_exact <- function(formula, data = NULL, tau = 0.5, weights = NULL, contrasts = NULL, pivots = NULL, program = NULL, subset = NULL, offset = NULL,
+                     na.action = NULL, digits = NULL) {
     call <- match.call()
     # rq has the quantiles in front of the data.
-    if (is.atomic(data) && !is.null(data)) {
-        tables <- if (is.data.frame(tau) || is.environment(tau)) tau
+    if ((is.numeric(data) || is.character(data) && all(is_number_text(data))) && is.null(dim(data))) {
+        tables <- if (!missing(tau)) tau
         tau <- data
         data <- tables
     }
     asked <- asked_quantiles(tau)
-    fit <- c(list(call = call), model_of(formula, data, weights, contrasts, pivots, program))
+    fit <- c(list(call = call), model_of_call(call, parent.frame(), formula, data, contrasts, pivots, program, na.action, digits))
     ends <- if (asked$all) list(c("0", "1")) else lapply(asked$tau, rep, 2)
     reports <- lapply(ends, function(at) report_of(fit, "process", list(lo = at[1], hi = at[2])))
-    structure(c(fit, parts_of(reports, asked)), class = "rq_exact")
+    fit_with(fit, parts_of(reports, asked))
 }
+
+# The model of a call, whose arguments are as for rq_exact.
+model_of_call <- function(call, caller, formula, data, contrasts, pivots, program, na.action, digits, predicts = FALSE) {
+    formula <- stats::as.formula(formula, caller)
+    data <- data_of(data)
+    model_of(formula, data, looked_up(call, formula, data, caller), contrasts, pivots, program, na.action, digits, predicts)
+}
+
+# A fit of a model and the parts of its reports.
+fit_with <- function(model, parts) structure(c(model[setdiff(names(model), names(parts))], parts), class = "rq_exact")
 
 # What a fit has of its reports.
 parts_of <- function(reports, asked) {
@@ -48,11 +71,20 @@ parts_of <- function(reports, asked) {
 }
 
 #' The coefficients, as doubles or, with exact = TRUE, as fractions in text.
-coef.rq_exact <- function(object, exact = FALSE, ...) if (exact) object$exact else object$coefficients
+coef.rq_exact <- function(object, exact = FALSE, ...) {
+    no_others(..., of = "coef")
+    if (exact) object$exact else object$coefficients
+}
 
-residuals.rq_exact <- function(object, ...) checked_residuals(object)$residuals
+residuals.rq_exact <- function(object, ...) {
+    no_others(..., of = "residuals")
+    checked_residuals(object)$residuals
+}
 
-fitted.rq_exact <- function(object, ...) checked_residuals(object)$fitted
+fitted.rq_exact <- function(object, ...) {
+    no_others(..., of = "fitted")
+    checked_residuals(object)$fitted
+}
 
 nobs.rq_exact <- function(object, ...) object$records
 
@@ -62,7 +94,12 @@ formula.rq_exact <- function(x, ...) x$formula
 segments_at <- function(fit, tau) findInterval(tau, fraction_value(fit$tau))
 
 #' Predictions of new records at the quantiles of a fit, or, of a fit of all quantiles, at those asked for or as functions of the quantile.
-predict.rq_exact <- function(object, newdata, tau = NULL, stepfun = FALSE, rearranged = FALSE, ...) {
+#'
+#' Of rq's other arguments interval = "none" and type = "none" may stand there: others have no answer.
+predict.rq_exact <- function(object, newdata, tau = NULL, stepfun = FALSE, rearranged = FALSE, interval = "none", type = "none", ...) {
+    no_others(..., of = "predict")
+    if (!identical(interval, "none")) stop("predict has no intervals: interval = \"", interval, "\" has no answer here", call. = FALSE)
+    if (!identical(type, "none")) stop("type = \"", type, "\" has no answer here", call. = FALSE)
     design <- if (missing(newdata)) design_of(object) else new_design(object, newdata)
     values <- design$x %*% as.matrix(object$coefficients) + design$offset
     if (!object$is_process) {
@@ -83,7 +120,8 @@ predict.rq_exact <- function(object, newdata, tau = NULL, stepfun = FALSE, rearr
 }
 
 #' The coefficients as a data frame: a row for each column and quantile, or segment.
-as.data.frame.rq_exact <- function(x, ...) {
+as.data.frame.rq_exact <- function(x, row.names = NULL, optional = FALSE, ...) {
+    no_others(..., of = "as.data.frame")
     ends <- vapply(x$segments, `[[`, "", "hi")
     count <- length(x$names)
     frame <- data.frame(
@@ -95,6 +133,7 @@ as.data.frame.rq_exact <- function(x, ...) {
 
 #' The coefficients in the columns of broom, with rank intervals where conf.int asks for them.
 tidy.rq_exact <- function(x, conf.int = FALSE, conf.level = 0.95, ...) {
+    no_others(..., of = "tidy")
     frame <- as.data.frame(x)
     if (conf.int) {
         ends <- do.call(rbind, summary(x, alpha = 1 - conf.level, tau = if (x$is_process) x$tau)$tables)
@@ -119,6 +158,6 @@ print.rq_exact <- function(x, digits = max(3, getOption("digits") - 3), ...) {
         cat("\nLoss:", paste(x$exact_loss, collapse = "  "), "\n")
     }
     cat("Records:", x$records, " dropped:", x$dropped, "\n")
-    print_notes(uniqueness_notes(x))
+    print_notes(c(x$computed, uniqueness_notes(x)))
     invisible(x)
 }

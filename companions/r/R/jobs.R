@@ -1,26 +1,29 @@
 # The jobs beside `process`.
 
-# A rank job's answer with notes, which are warned of.
-with_notes <- function(answer, notes) {
+# A rank job's answer with notes, which are warned of, behind what was worked out of the formula.
+with_notes <- function(answer, notes, computed = NULL) {
     for (note in notes) warning(note, call. = FALSE)
-    c(answer, list(notes = notes))
+    c(answer, list(notes = c(computed, notes)))
 }
 
 #' The Wilcoxon scores of a formula by the job ranks.
-ranks_exact <- function(formula, data = NULL, weights = NULL, contrasts = "treatment", pivots = NULL, program = NULL) {
-    model <- model_of(formula, data, weights, contrasts, pivots, program)
+ranks_exact <- function(formula, data = NULL, weights = NULL, contrasts = NULL, pivots = NULL, program = NULL, subset = NULL, offset = NULL,
+                        na.action = NULL, digits = NULL) {
+    model <- model_of_call(match.call(), parent.frame(), formula, data, contrasts, pivots, program, na.action, digits)
     found <- rescued("process", list(exact = report_of(model, "ranks")$wilcoxon), function(fault) {
         need_gmp(fault)
         report <- report_of(model, "process", list(lo = "0", hi = "1"))
         list(exact = as.character(wilcoxon_of(report)), note = rescue_note(fault))
     })
-    with_notes(list(ranks = fraction_value(found$exact), exact = found$exact), c(found$note, ties_notes(model)))
+    with_notes(list(ranks = fraction_value(found$exact), exact = found$exact), c(found$note, ties_notes(model)), model$computed)
 }
 
 #' The predictions of the records whose response is missing, by the job predict: the steps over the quantiles from lo to hi of each,
 #' as they are and rearranged so that they never fall.
-predictions_exact <- function(formula, data = NULL, lo = 0, hi = 1, weights = NULL, contrasts = "treatment", pivots = NULL, program = NULL) {
-    model <- model_of(formula, data, weights, contrasts, pivots, program)
+predictions_exact <- function(formula, data = NULL, lo = 0, hi = 1, weights = NULL, contrasts = NULL, pivots = NULL, program = NULL, subset = NULL,
+                              offset = NULL, digits = NULL) {
+    # The records to be predicted miss their response, and so no rule for missing cells is asked for.
+    model <- model_of_call(match.call(), parent.frame(), formula, data, contrasts, pivots, program, "na.omit", digits, predicts = TRUE)
     found <- rescued("predict:", list(exact = report_of(model, "predict", list(lo = lo, hi = hi))$predictions), function(fault) {
         need_gmp(fault)
         list(exact = exact_predictions(model, lo, hi), note = rescue_note(fault))
@@ -28,13 +31,15 @@ predictions_exact <- function(formula, data = NULL, lo = 0, hi = 1, weights = NU
     numbers <- c("lo", "hi", "value")
     steps <- found$exact
     steps[numbers] <- lapply(found$exact[numbers], fraction_value)
-    with_notes(list(steps = steps, exact = found$exact), found$note)
+    with_notes(list(steps = steps, exact = found$exact), found$note, model$computed)
 }
 
 #' The fits at one quantile that minimise the check loss plus lambda times the sum of the absolute coefficients but the intercept's, for
 #' every lambda from lo to hi, by the job path. Lambda is above 0, and half of what rq's lasso calls so.
-path_exact <- function(formula, data = NULL, tau = 0.5, lo, hi = lo, weights = NULL, contrasts = "treatment", pivots = NULL, program = NULL) {
-    report <- report_of(model_of(formula, data, weights, contrasts, pivots, program), "path", list(tau = tau, lo = lo, hi = hi))
+path_exact <- function(formula, data = NULL, tau = 0.5, lo, hi = lo, weights = NULL, contrasts = NULL, pivots = NULL, program = NULL, subset = NULL,
+                       offset = NULL, na.action = NULL, digits = NULL) {
+    model <- model_of_call(match.call(), parent.frame(), formula, data, contrasts, pivots, program, na.action, digits)
+    report <- report_of(model, "path", list(tau = tau, lo = lo, hi = hi))
     rows <- lapply(report$segments, function(it) c(it$lo, it$hi, it$loss, it$coef))
     exact <- as.data.frame(do.call(rbind, rows))
     names(exact) <- c("lo", "hi", "loss_lo", "loss_hi", report$names)
@@ -65,8 +70,9 @@ column_numbers <- function(model, tested) {
 #'
 #' The statistic over the number of tested columns is what anova(.., test = "rank", score = "wilcoxon") calls F value. Where responses are tied it
 #' depends on the order of the records: with `orders` the test is made in so many orders, of which the first is that of the table.
-rank_test_exact <- function(formula, data = NULL, tested, weights = NULL, contrasts = "treatment", pivots = NULL, program = NULL, orders = 1) {
-    model <- model_of(formula, data, weights, contrasts, pivots, program)
+rank_test_exact <- function(formula, data = NULL, tested, weights = NULL, contrasts = NULL, pivots = NULL, program = NULL, orders = 1, subset = NULL,
+                            offset = NULL, na.action = NULL, digits = NULL) {
+    model <- model_of_call(match.call(), parent.frame(), formula, data, contrasts, pivots, program, na.action, digits)
     tested <- column_numbers(model, tested)
     exact <- tested_by(model, tested)
     scores <- structure(fraction_value(exact$scores), names = exact$names[exact$tested])
@@ -84,18 +90,27 @@ rank_test_exact <- function(formula, data = NULL, tested, weights = NULL, contra
         answer$orders <- c(statistic, others)
         answer$range <- range(answer$orders)
     }
-    with_notes(answer, c(exact$note, if (orders == 1) ties_notes(model)))
+    with_notes(answer, c(exact$note, if (orders == 1) ties_notes(model)), model$computed)
 }
 
 #' The rank tests of nested fits against the largest of them, or of one fit against its intercept.
 #'
-#' The F value is the statistic over the number of tested columns, as in anova(.., test = "rank", score = "wilcoxon") of quantreg.
-anova.rq_exact <- function(object, ...) {
+#' The F value is the statistic over the number of tested columns, as in anova(.., test = "rank", score = "wilcoxon") of quantreg. Its other
+#' tests have no answer: of fits at several quantiles it tests by Wald that their slopes are the same.
+anova.rq_exact <- function(object, ..., test = "rank", score = "wilcoxon") {
+    if (!identical(test, "rank")) stop("anova has the test \"rank\" alone, and no test = \"", test, "\"", call. = FALSE)
+    if (!identical(score, "wilcoxon")) stop("anova has the score \"wilcoxon\" alone, and no score = \"", score, "\"", call. = FALSE)
     fits <- list(object, ...)
-    fits <- fits[vapply(fits, inherits, NA, "rq_exact")]
+    others <- !vapply(fits, inherits, NA, "rq_exact")
+    if (any(others)) stop("anova takes fits by rq_exact", if (any(nzchar(names(fits)[others]))) paste0(", and no argument ", names(fits)[others][1], " ="), call. = FALSE)
+    levels <- unique(unlist(lapply(fits, function(fit) if (fit$is_process) "all" else fraction_value(fit$tau))))
+    if (length(levels) > 1) {
+        stop("the fits are at several quantiles (", some_of(levels), "): anova tests nested fits at one, and no equality of slopes", call. = FALSE)
+    }
     fits <- fits[order(-vapply(fits, function(fit) length(fit$names), 0L))]
     large <- fits[[1]]
     smaller <- if (length(fits) == 1) list("(Intercept)") else lapply(fits[-1], `[[`, "names")
+    if (length(fits) == 1 && !"(Intercept)" %in% large$names) stop("one fit is tested against its intercept, which it lacks", call. = FALSE)
     tests <- lapply(smaller, function(names) {
         if (!all(names %in% large$names) || length(names) == length(large$names)) stop("the fits are not nested by the names of their columns", call. = FALSE)
         tested_by(large, which(!large$names %in% names))

@@ -17,11 +17,11 @@ fit_all <- function(jobs, call = rq_exact, cores = parallel::detectCores(), keep
 #'
 #' A cut that falls on a breakpoint leaves open which fit goes on there, and the numbers at a cut are longer than others: where ranges
 #' can't be joined, or one ends with status 7, all quantiles are fitted as one.
-fit_parts <- function(formula, data = NULL, parts = 2, weights = NULL, contrasts = "treatment", pivots = NULL, program = NULL,
-                      cores = parallel::detectCores()) {
+fit_parts <- function(formula, data = NULL, parts = 2, weights = NULL, contrasts = NULL, pivots = NULL, program = NULL,
+                      cores = parallel::detectCores(), subset = NULL, offset = NULL, na.action = NULL, digits = NULL) {
     if (!(parts %in% seq_len(1008))) stop("a range is fitted in 1 to 1008 parts", call. = FALSE)
     call <- match.call()
-    fit <- c(list(call = call), model_of(formula, data, weights, contrasts, pivots, program))
+    fit <- c(list(call = call), model_of_call(call, parent.frame(), formula, data, contrasts, pivots, program, na.action, digits))
     # Multiples of 1/1009 aren't simple fractions, where segments end most often.
     cuts <- c("0", sprintf("%d/1009", (seq_len(parts - 1) * 1009L) %/% as.integer(parts)), "1")
     range_of <- function(lo, hi) report_of(fit, "process", list(lo = lo, hi = hi))
@@ -32,7 +32,7 @@ fit_parts <- function(formula, data = NULL, parts = 2, weights = NULL, contrasts
     if (length(others)) stop(others[[1]])
     whole <- if (!length(failed)) Reduce(joined, reports)
     if (is.null(whole)) whole <- range_of("0", "1")
-    structure(c(fit, parts_of(list(whole), list(all = TRUE))), class = "rq_exact")
+    fit_with(fit, parts_of(list(whole), list(all = TRUE)))
 }
 
 # Two reports of ranges that meet within a segment of both, as one; NULL where they don't.

@@ -14,8 +14,7 @@ column_notes <- function(column, name) {
         if (length(cells) && !length(odd) && !is.factor(column)) {
             paste0(name, " has texts, each of which is a number", if (any(grepl("/", cells))) " or a fraction",
                 ": it is a factor, as in R; as.numeric() makes numbers of decimals")
-        },
-        if (is.ordered(column)) paste0(name, " is an ordered factor: its contrasts are not those of contr.poly but those of any other factor")
+        }
     )
 }
 
@@ -41,23 +40,44 @@ penalty_of <- function(formula) {
     if (length(found) == 1) fraction_value(sub("^.*[,=] *(.*)\\)$", "\\1", found)) else if (length(found)) NA else 0
 }
 
-# The places of a fit's quantiles or segments at which the rows of the basis alone lie on it, seen from afar of rounding.
-has_no_other_row <- function(fit) {
-    residuals <- tryCatch(as.matrix(residuals(fit)), error = function(unclear) NULL)
-    if (is.null(residuals)) return(rep(FALSE, length(fit$segments)))
-    # Those of the basis are 0 as they stand.
-    colSums(abs(residuals) <= 1e-9 * max(1, abs(residuals))) == length(fit$names)
+# Coefficients beside those of a segment with the same loss, or NULL where none are told: where the rankscore of a basic row is 0 or 1 and
+# no other row lies on the fit, the fit moves along the rows of the basis but that one, to the first row that it then meets.
+beside <- function(segment, design, coefficients) {
+    scores <- (fraction_value(segment$basic[, 1]) + fraction_value(segment$basic[, 2])) / 2
+    freed <- which(scores %in% c(0, 1))[1]
+    if (is.na(freed)) return(NULL)
+    basis <- as.integer(rownames(segment$basic))
+    residuals <- drop(design$y - design$offset - design$x %*% coefficients)
+    if (any(abs(residuals[-basis]) <= 1e-9 * max(1, abs(residuals)))) return(NULL)
+    # The freed row comes to lie above the fit where its rankscore is 1, and below it where that is 0.
+    move <- solve(design$x[basis, , drop = FALSE], (if (scores[freed] == 1) -1 else 1) * (seq_along(basis) == freed))
+    rises <- drop(design$x %*% move)
+    meets <- abs(rises) > 1e-9 * max(abs(rises)) & residuals * rises > 0
+    meets[basis] <- FALSE
+    coefficients + (if (any(meets)) min(residuals[meets] / rises[meets]) else 1) * move
 }
 
-#' Whether a fit is unique, for each of its quantiles or within each of its segments: TRUE where the dual values show it, FALSE where one of them is at
-#' its bound and the rows of the basis alone lie on the fit, and else NA.
+#' Other coefficients with the same loss, for each of a fit's quantiles or within each of its segments, in the shape of coef(fit); NA where none are
+#' told.
+other_coef <- function(fit) {
+    design <- if (!isTRUE(fit$is_smooth)) tryCatch(design_of(fit), error = function(unclear) NULL)
+    own <- as.matrix(fit$coefficients)
+    found <- lapply(seq_along(fit$segments), function(at) {
+        other <- if (!is.null(design)) beside(fit$segments[[at]], design, own[, at])
+        if (is.null(other)) rep(NA_real_, nrow(own)) else other
+    })
+    by_column(unlist(found), fit$names, colnames(own))
+}
+
+#' Whether a fit is unique, for each of its quantiles or within each of its segments: TRUE where the dual values show it, FALSE where other_coef(fit)
+#' has other coefficients of the same loss, and else NA.
 #'
 #' Where two segments with other coefficients meet, at a breakpoint of a process, the fit isn't unique.
 is_unique <- function(fit) {
-    penalty <- penalty_of(fit$formula)
-    strict <- vapply(fit$segments, is_strict, NA, rows = fit$records, penalty = penalty)
-    known <- if (all(strict) || !identical(penalty, 0)) strict else strict | has_no_other_row(fit)
-    unname(ifelse(known, strict, NA))
+    strict <- vapply(fit$segments, is_strict, NA, rows = fit$records, penalty = penalty_of(fit$formula))
+    if (all(strict)) return(unname(strict))
+    others <- as.matrix(other_coef(fit))
+    unname(ifelse(strict, TRUE, ifelse(is.na(others[1, ]), NA, FALSE)))
 }
 
 # That a fit isn't unique, or may not be, and where.
@@ -74,7 +94,7 @@ uniqueness_notes <- function(fit) {
 
 # That responses are tied, on which Wilcoxon scores and their tests depend.
 ties_notes <- function(model) {
-    frame <- tryCatch(kept_frame(model), error = function(fault) NULL)
+    frame <- model$frame
     if (is.null(frame)) return(NULL)
     response <- round(model.response(frame) - offset_of(frame), 12)
     tied <- sum(duplicated(response) | duplicated(response, fromLast = TRUE))

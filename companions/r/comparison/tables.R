@@ -64,7 +64,8 @@ taus <- c("1/4", "1/2", "3/4")
 # out, for the verdict says more.
 compare_case <- function(case) {
     at <- data.frame(table = case[[1]], formula = deparse1(case[[3]]), tau = taus)
-    found <- tryCatch(suppressWarnings(compare_rq(case[[3]], case[[2]], taus, weights = case[[4]])), quantreg_error = identity)
+    # As values, for a table may have a column of the name that stands for its weights here.
+    found <- tryCatch(suppressWarnings(do.call(compare_rq, list(case[[3]], case[[2]], taus, weights = case[[4]]))), quantreg_error = identity)
     if (inherits(found, "quantreg_error")) {
         return(cbind(at, records = NA, difference = NA, loss_exact = NA, loss_rq = NA, verdict = paste0("`", found$line, "`")))
     }

@@ -7,24 +7,30 @@
 \title{The other jobs of the program}
 \description{Wilcoxon scores, predictions of missing responses, paths of the lasso and rank tests of nested models.}
 \usage{
-ranks_exact(formula, data = NULL, weights = NULL,
-            contrasts = "treatment", pivots = NULL, program = NULL)
+ranks_exact(formula, data = NULL, weights = NULL, contrasts = NULL,
+            pivots = NULL, program = NULL, subset = NULL, offset = NULL,
+            na.action = NULL, digits = NULL)
 predictions_exact(formula, data = NULL, lo = 0, hi = 1, weights = NULL,
-                  contrasts = "treatment", pivots = NULL, program = NULL)
+                  contrasts = NULL, pivots = NULL, program = NULL,
+                  subset = NULL, offset = NULL, digits = NULL)
 path_exact(formula, data = NULL, tau = 0.5, lo, hi = lo, weights = NULL,
-           contrasts = "treatment", pivots = NULL, program = NULL)
+           contrasts = NULL, pivots = NULL, program = NULL, subset = NULL,
+           offset = NULL, na.action = NULL, digits = NULL)
 rank_test_exact(formula, data = NULL, tested, weights = NULL,
-                contrasts = "treatment", pivots = NULL, program = NULL,
-                orders = 1)
-\method{anova}{rq_exact}(object, ...)
+                contrasts = NULL, pivots = NULL, program = NULL, orders = 1,
+                subset = NULL, offset = NULL, na.action = NULL,
+                digits = NULL)
+\method{anova}{rq_exact}(object, ..., test = "rank", score = "wilcoxon")
 }
 \arguments{
-\item{formula, data, tau, weights, contrasts, pivots, program}{as for \code{\link{rq_exact}}; \code{tau} is one quantile.}
+\item{formula, data, tau, weights, contrasts, pivots, program, subset, offset, na.action, digits}{as for \code{\link{rq_exact}}; \code{tau} is one quantile.}
 \item{lo, hi}{the ends of a range of quantiles; for \code{path_exact} those of a range of lambda, above 0.}
 \item{tested}{the columns of the design that are tested, by their names or by numbers that rise, counted from 1 with the intercept; one at
 least is left.}
 \item{orders}{in how many orders of the records the test is made, the first of which is that of the table.}
-\item{object, ...}{fits of nested models, of which the largest has all columns of the others; one fit alone is tested against its intercept.}
+\item{object, ...}{fits of nested models, of which the largest has all columns of the others; one fit alone is tested against its intercept.
+Fits at several quantiles are an error: that their slopes are the same isn't tested here.}
+\item{test, score}{\code{"rank"} and \code{"wilcoxon"}: others have no answer.}
 }
 \value{\code{ranks_exact} gives a list of the scores, \code{ranks} in doubles and \code{exact} in fractions. \code{predictions_exact}
 gives a list of two data frames, \code{steps} in doubles and \code{exact} in fractions: a row for each step of a record whose response is

@@ -194,24 +194,25 @@ fit <- rq_exact(y ~ I(0.5 * x) + offset(2 * z), shifted, program = program)
 stopifnot(
     identical(readLines(paste0(program, ".words"))[2], "--formula=y ~ I(0.5 * x) + offset(2 * z)"),
     identical(readLines(paste0(program, ".table")), c("\"y\",\"x\",\"z\"", "2,0,1", "2,2,0", "2,6,-0.5", "2,1,NA")),
-    identical(names(coef(fit)), c("(Intercept)", "I(1/2 * x)")), identical(fit$exact_loss, "1/2"),
+    # The names are R's, which leaves numbers as they were written.
+    identical(names(coef(fit)), names(coef(lm(y ~ I(0.5 * x) + offset(2 * z), shifted)))), identical(fit$exact_loss, "1/2"),
     all.equal(unname(residuals(fit)), c(0, 1, 0)), all.equal(unname(fitted(fit)), c(2, 1, 2))
 )
 # R and the program read these alike.
 for (formula in list(y ~ I(1/2 * x) + offset(2 * z), y ~ I(2/4 * x) + offset(z) + offset((z)), y ~ I(x * 0.5) + offset(3 * z) + offset(-z))) {
-    fit$formula <- formula
-    fit$names[2] <- names(fit$coefficients)[2] <- if ("I(x * 0.5)" %in% attr(terms(formula), "term.labels")) "I(x * 1/2)" else "I(1/2 * x)"
-    stopifnot(all.equal(unname(residuals(fit)), c(0, 1, 0)))
+    named <- if ("I(x * 0.5)" %in% attr(terms(formula), "term.labels")) sub("1/2 * x", "x * 1/2", half, fixed = TRUE) else half
+    fit <- rq_exact(formula, shifted, program = fake(strsplit(named, "\n")[[1]]))
+    stopifnot(all.equal(unname(residuals(fit)), c(0, 1, 0)), identical(names(coef(fit)), names(coef(lm(formula, shifted)))))
 }
-# A quotient of columns has no meaning for the program, and of these numbers another one.
-for (wrong in list(y ~ I(x/2), y ~ I(3/2^2 * x), y ~ offset(1/x), y ~ x:I((x + 1)/2), y ~ I(x * 3/2))) {
-    fault <- tryCatch(rq_exact(wrong, four, program = program), error = conditionMessage)
-    stopifnot(grepl("no division", fault))
+# A quotient of columns has no meaning for the program, and of these numbers another one: R works them out.
+for (formula in list(y ~ I(x/2), y ~ I(3/2^2 * x), y ~ I(x * 3/2), y ~ I(x^1.5), y ~ I(sqrt(x)), y ~ I(2 * -x))) {
+    told <- quantreg.exact:::model_of(formula, four)
+    stopifnot(identical(told$asked, "y ~ `<x2>`"), all.equal(told$data[["<x2>"]], unname(model.matrix(formula, four)[, 2])))
 }
-fault <- tryCatch(rq_exact(y ~ offset(x) + offset(2 * x) + offset(x), four, program = program), error = conditionMessage)
-stopifnot(grepl("of equal offsets, as offset(x),", fault, fixed = TRUE))
-# Another offset than that of the fit has another loss.
-fit$formula <- y ~ I(0.5 * x) + offset(3 * z)
+# Of equal offsets R takes one.
+stopifnot(identical(quantreg.exact:::model_of(y ~ offset(x) + offset(2 * x) + offset(x), four)$asked, "y ~ offset(x) + offset(2 * x)"))
+# An answer that isn't that of the table has another loss.
+fit <- rq_exact(y ~ I(0.5 * x) + offset(3 * z), shifted, program = program)
 stopifnot(inherits(try(residuals(fit), silent = TRUE), "try-error"))
 
 if (!nzchar(Sys.getenv("QUANTREG"))) {
@@ -241,7 +242,7 @@ fit <- rq_exact(y ~ x + I(x^2), four)
 stopifnot(identical(unname(coef(fit, exact = TRUE)), c("0", "0", "1")), all.equal(unname(residuals(fit)), c(0, 1, 0, 0)))
 fit <- rq_exact(y ~ I(0.5 * x) + offset(2 * z), shifted)
 stopifnot(
-    identical(coef(fit, exact = TRUE), c("(Intercept)" = "0", "I(1/2 * x)" = "1")), fit$dropped == 1,
+    identical(coef(fit, exact = TRUE), c("(Intercept)" = "0", "I(0.5 * x)" = "1")), fit$dropped == 1,
     all.equal(unname(residuals(fit)), c(0, 1, 0)), all.equal(unname(fitted(fit)), c(2, 1, 2))
 )
 # Less their offsets the responses are 0, 2 and 1, and the median 1 has the offset 5 added.

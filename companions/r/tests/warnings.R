@@ -37,7 +37,7 @@ bound$segments[[1]]$basic["1", ] <- "1"
 stopifnot(identical(is_unique(bound), c(FALSE, TRUE)), grepl("is not unique within 1 of 2 segments: 0 to 3/5", printed(bound)))
 bound$segments[[1]]$marks <- "***"
 bound$coefficients[, 1] <- c(0, 1)
-bound$data$y[2] <- 1
+bound$frame$y[2] <- 1
 stopifnot(identical(is_unique(bound), c(NA, TRUE)), grepl("may not be unique within 1 of 2 segments", printed(bound)))
 
 # Tied responses, on which Wilcoxon scores and rank tests depend; the range over some orders holds the statistic of the table's order.
@@ -63,11 +63,15 @@ stopifnot(
     # A column that isn't used says nothing.
     !length(warnings_of(rq_exact(y ~ 1, made(c("1", "2", "3", "two", "1", "2")))))
 )
-# An order of levels that R codes by contr.poly.
+# An order of levels, which R codes by contr.poly, is told of where a fit is printed; another factor isn't.
 stopifnot(
-    sees("ordered factor", rq_exact(y ~ x, made(factor(c("lo", "hi", "lo", "hi", "lo", "hi"), ordered = TRUE)))),
-    !length(warnings_of(rq_exact(y ~ x, made(factor(c("lo", "hi", "lo", "hi", "lo", "hi"), levels = c("lo", "hi"))))))
+    grepl("x by contr.poly", printed(rq_exact(y ~ x, made(factor(c("lo", "hi", "lo", "hi", "lo", "hi"), ordered = TRUE))))),
+    !grepl("contr", printed(rq_exact(y ~ x, made(factor(c("lo", "hi", "lo", "hi", "lo", "hi"), levels = c("lo", "hi"))))))
 )
+# Contrasts that a subset takes from a factor, as R warns of them too.
+lost <- made(factor(c("a", "b", "c", "a", "b", "c")))
+contrasts(lost$x) <- contr.sum(3)
+for (fit in list(rq_exact, lm)) stopifnot(sees("contrasts dropped from factor x due to missing levels", fit(y ~ x, lost, subset = x != "c")))
 # The reference of relevel is kept.
 stopifnot(identical(names(coef(rq_exact(y ~ x, made(relevel(factor(c("a", "b", "c", "a", "b", "c")), "b"))))), c("(Intercept)", "xa", "xc")))
 
