@@ -24,10 +24,7 @@ use crate::segments::{
 };
 use crate::tests::{Tests, TestsOf, Then, decide_each};
 use crate::verdict::Halt;
-use cert_sums::{
-    Table, WholeProblem, bounds_hold, costs_stand, duals_balance, duals_meet, losses_hold,
-    run_holds,
-};
+use cert_sums::{Table, WholeProblem, bounds_hold, costs_stand, is_held, meets, run_holds};
 use frac_core::{Frac128, List};
 use loss_model::{Problem, Segment, Vertex};
 use ratio::Ratio;

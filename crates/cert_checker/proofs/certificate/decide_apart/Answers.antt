@@ -1,8 +1,4 @@
 use Rattle.std.proofs.lemmas.Result.{err_from_is_err_and}
-use Rattle.frac_core.specs.Values.{value as value128}
-use Rattle.loss_model.specs.Problem.{sample}
-use Rattle.cert_checker.specs.Conditions.{balances}
-use Rattle.cert_checker.proofs.Extracts.{of_item}
 use Rattle.cert_checker.proofs.Shared.{at_balances, at_losses, at_joints}
 use Rattle.cert_checker.proofs.certificate.decide_apart.Goals as goal
 
