@@ -32,15 +32,16 @@ CONDITIONS = {
     9: "each rank interval has the values that its statistic allows, and no others",
 }
 
-# What a certificate looks like: the kind of each value by its key; a list has the kind of its items.
-END = {"coef": ["number"], "inside": ["number"], "kind": "end", "sides": "signs"}
-FINITE, INFINITE = {**END, "outside": ["number"], "value": "number"}, {**END, "ray": ["number"]}
+# What a certificate looks like: the kind of each value by its key; a list has the kind of its items, and that of the first and of the
+# later ones where these differ. A number of an answer may be longer than one of the problem.
+END = {"coef": ["answer"], "inside": ["answer"], "kind": "end", "sides": "signs"}
+FINITE, INFINITE = {**END, "outside": ["answer"], "value": "answer"}, {**END, "ray": ["answer"]}
 ROW = {"down0": "number", "down1": "number", "up0": "number", "up1": "number", "x": ["number"], "y": "number"}
-SEGMENT = dict.fromkeys(("basic_hi", "basic_lo", "coef"), ["number"]) | dict.fromkeys(("hi", "lo", "loss_hi", "loss_lo"), "number")
+SEGMENT = dict.fromkeys(("basic_hi", "basic_lo", "coef"), ["answer"]) | dict.fromkeys(("hi", "lo", "loss_hi", "loss_lo"), "answer")
 SEGMENT |= {"sides": "signs"}
-LATER = {"basic_hi": ["number"], "coef": ["number"], "hi": "number", "loss_hi": "number", "moves": ["a move"]}
+LATER = {"basic_hi": ["answer"], "coef": ["answer"], "hi": "answer", "loss_hi": "answer", "moves": ["a move"]}
 MOVE = {"row": "count", "side": "a side"}
-INTERVAL = {"column": "count", "crit": "number", "high": "an end", "low": "an end", "projection": ["number"], "tau": "number"}
+INTERVAL = {"column": "count", "crit": "answer", "high": "an end", "low": "an end", "projection": ["answer"], "tau": "answer"}
 CERTIFICATE = {"columns": "count", "hi": "number", "intervals": [INTERVAL], "kind": "certificate", "lo": "number"}
 CERTIFICATE |= {"rows": [ROW], "segments": [SEGMENT], "version": "version"}
 PLAIN = {
@@ -49,9 +50,10 @@ PLAIN = {
     "end": lambda value: value in ("finite", "infinite"),
     "certificate": lambda value: value == "quantreg-certificate",
     "a side": lambda value: value in ("+", "-", "*"),
-    "version": lambda value: type(value) is int and value in (1, 2),
+    "version": lambda value: type(value) is int and value in (1, 2, 3),
 }
 MOST_DIGITS = 4300  # of a number; Python itself neither reads nor writes longer ones
+LONGEST = 65_536  # digits of a number of an answer in version 3
 SIGNS = {"=": {0}, "<": {-1}, "<=": {-1, 0}, ">": {1}, ">=": {1, 0}}  # of left minus right
 
 
@@ -61,6 +63,21 @@ def fraction(text):
         return Fraction(text) if isinstance(text, str) and not set(text) - set("0123456789+-./eE") else None
     except (ValueError, ZeroDivisionError):
         return None
+
+
+def whole_of(digits):
+    """The whole number of a text, by halves where Python doesn't read that many digits at once."""
+    last = len(digits) // 2
+    return int(digits) if len(digits) <= MOST_DIGITS else whole_of(digits[:-last]) * 10**last + whole_of(digits[-last:])
+
+
+def long_fraction(text):
+    """The fraction of digits, or of two of them with a stroke between, of any size, or None."""
+    parts = text.removeprefix("-" if text[:1] == "-" else "+").split("/") if isinstance(text, str) else []
+    if len(parts) not in (1, 2) or not all(it.isascii() and it.isdecimal() and len(it) <= LONGEST for it in parts):
+        return None
+    above, below = map(whole_of, (*parts, "1")[:2])
+    return Fraction(-above if text[0] == "-" else above, below) if below else None
 
 
 def once(pairs):
@@ -77,23 +94,22 @@ def is_long(text):
     return len(text) > MOST_DIGITS or len(text.lower().partition("e")[2].lstrip("+-0")) > 4
 
 
-def read(value, kind, path=""):
-    """A value of JSON as a certificate has it, with its numbers as fractions."""
+def read(value, kind, path="", answer="number"):
+    """A value of JSON as a certificate has it, with its numbers as fractions; those of an answer are of the kind that is given."""
+    kind = answer if kind == "answer" else kind
     if isinstance(kind, list) and isinstance(value, list):
-        return [read(item, kind[0], f"{path}/{at}") for at, item in enumerate(value)]
-    if kind == "a chain" and isinstance(value, list):
-        return [read(item, LATER if at else SEGMENT, f"{path}/{at}") for at, item in enumerate(value)]
+        return [read(item, kind[at > 0 and len(kind) > 1], f"{path}/{at}", answer) for at, item in enumerate(value)]
     if kind == "an end" and isinstance(value, dict):
         kind = FINITE if value.get("kind") == "finite" else INFINITE
     if kind == "a move" and isinstance(value, dict):
-        kind = MOVE | {"value": "number"} if value.get("side") == "*" else MOVE
+        kind = MOVE | {"value": "answer"} if value.get("side") == "*" else MOVE
     if isinstance(kind, dict) and isinstance(value, dict):
         for key in sorted(kind.keys() ^ value.keys()):
             raise ValueError(f"{path}/{key} is {'missing' if key in kind else 'unknown'}")
-        return {key: read(value[key], kind[key], f"{path}/{key}") for key in sorted(kind)}
+        return {key: read(value[key], kind[key], f"{path}/{key}", answer) for key in sorted(kind)}
     if kind == "number" and isinstance(value, str) and is_long(value):
         raise ValueError(f"{path} is a number of more than {MOST_DIGITS} digits, or with a power of ten of more than 4")
-    if kind == "number" and (number := fraction(value)) is not None:
+    if kind in ("number", "long number") and (number := (fraction if kind == "number" else long_fraction)(value)) is not None:
         return number
     if isinstance(kind, str) and kind in PLAIN and PLAIN[kind](value):
         return value
@@ -101,7 +117,7 @@ def read(value, kind, path=""):
 
 
 def moved(before, later, sides):
-    """A later segment of version 2 in full: it begins as the one before it ends, but for the rows that move, as the sides then do."""
+    """A later segment of a chain in full: it begins as the one before it ends, but for the rows that move, as the sides then do."""
     values, least = dict(zip(stars(sides), before["basic_hi"])), 0
     for move in later["moves"]:
         row, side = move["row"], move["side"]
@@ -114,7 +130,7 @@ def moved(before, later, sides):
 
 
 def in_full(chain, rows):
-    """The segments of version 2, each in full."""
+    """The segments of a chain, each in full."""
     full, sides = [], list(chain[0]["sides"]) if chain else []
     for at, it in enumerate(chain):
         it = moved(full[-1], it, sides) if at else it
@@ -124,14 +140,21 @@ def in_full(chain, rows):
     return full
 
 
+def is_linked(segments):
+    """Whether the second segment says what changes."""
+    return isinstance(segments, list) and len(segments) > 1 and isinstance(segments[1], dict) and "moves" in segments[1]
+
+
 def certificate(value):
-    """The certificate of a value of JSON, of version 1 or 2, with each segment in full."""
-    if isinstance(value, dict) and type(value.get("version")) is int and value["version"] == 2:
-        cert = read(value, CERTIFICATE | {"segments": "a chain"})
-        return cert | {"segments": in_full(cert["segments"], len(cert["rows"]))}
-    if isinstance(value, dict) and type(value.get("version")) is int and value["version"] != 1:
-        raise ValueError(f"/version is {value['version']}, and this reads versions 1 and 2 alone")
-    return read(value, CERTIFICATE)
+    """The certificate of a value of JSON, of version 1, 2 or 3, with each segment in full."""
+    version = value.get("version") if isinstance(value, dict) else None
+    version = version if type(version) is int else None
+    if version not in (None, 1, 2, 3):
+        raise ValueError(f"/version is {version}, and this reads versions 1, 2 and 3 alone")
+    is_chain = version == 2 or version == 3 and is_linked(value.get("segments"))
+    kind = CERTIFICATE | {"segments": [SEGMENT, LATER]} if is_chain else CERTIFICATE
+    cert = read(value, kind, answer="long number" if version == 3 else "number")
+    return cert | {"segments": in_full(cert["segments"], len(cert["rows"]))} if is_chain else cert
 
 
 def shown(side):

@@ -116,7 +116,7 @@ class Reports(unittest.TestCase):
             (INTERVALS.replace("interval 2", "interval 3"), "it has no column 3"),
             (PREDICT.replace("predict 4", "predict four"), "'four' is no count"),
             (CHECK.replace("accepted\n", ""), "it has no line 'accepted'"),
-            (CERTIFICATE.replace('"version":1', '"version":3'), "it is no certificate: "),
+            (CERTIFICATE.replace('"version":1', '"version":4'), "it is no certificate: "),
             ("{", "it is no certificate: "),
         ]:
             with self.subTest(text=text), self.assertRaisesRegex(NoReport, re.escape(why)):

@@ -3,7 +3,7 @@
 
     fit_of.py < FIT.json > Fit.v
 
-It takes certificates of version 1 and 2. None of it is trusted: the rows, the segments and the theorems stand in Fit.v to be read, and
+It takes certificates of version 1, 2 and 3. None of it is trusted: the rows, the segments and the theorems stand in Fit.v to be read, and
 Coq refuses what isn't so. What checking Fit.v will take is told on standard error.
 """
 
@@ -82,7 +82,7 @@ def placed(rows, sides, coef, factor, *duals):
 
 
 def in_full(segments):
-    """Each segment of either version with its low end too, and its sides."""
+    """Each segment of any version with its low end too, and its sides."""
     sides, before = [], {}
     for it in segments:
         if "moves" in it:
@@ -159,6 +159,7 @@ def size(cert, letters):
 
 
 if __name__ == "__main__":
+    sys.set_int_max_str_digits(0)  # Python reads and writes longer numbers only when asked
     found = json.load(sys.stdin)
     text_of_fit = "\n".join(theorems(found))
     print(text_of_fit)

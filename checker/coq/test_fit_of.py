@@ -18,7 +18,7 @@ HERE = Path(__file__).resolve().parent
 EXAMPLES = HERE.parent.parent / "examples"
 sys.path.insert(0, str(HERE.parent))
 from quantreg_check import certificate as read_certificate  # noqa: E402
-from test_quantreg_check import CHAIN, FIVE, LINE, RANKED, certificate, changed, data_row, in_fractions, segment  # noqa: E402
+from test_quantreg_check import CHAIN, DOUBLES, FIVE, LINE, RANKED, certificate, changed, data_row, in_fractions, segment  # noqa: E402
 
 REALS = "ClassicalDedekindReals"
 AXIOMS = {f"{REALS}.sig_forall_dec", f"{REALS}.sig_not_dec", "FunctionalExtensionality.functional_extensionality_dep", "Classical_Prop.classic"}
@@ -41,7 +41,7 @@ def certify(formula, table, *options, lo="0", hi="1"):
 
 
 def sides_of(cert, at):
-    """The sides of a segment, of either version."""
+    """The sides of a segment, of any version."""
     return read_certificate(cert)["segments"][at]["sides"]
 
 
@@ -77,7 +77,7 @@ class Theorems(unittest.TestCase):
         self.assertIn(f'"{why}"', said)
 
     def test_certificates_that_are_worked_by_hand(self):
-        for cert in (LINE, CHAIN, RANKED, FIVE, in_fractions(LINE), in_fractions(RANKED)):
+        for cert in (LINE, CHAIN, {**CHAIN, "version": 3}, DOUBLES, RANKED, FIVE, in_fractions(LINE), in_fractions(RANKED)):
             self.accepted(cert)
 
     def test_coefficients_that_are_no_vertex(self):

@@ -1,7 +1,7 @@
 """Answers worked out from processes where the program ends with status 7, by Python's fractions of any size.
 
-The program's own sums of scores, rearrangements and rank intervals end where a number outgrows it. The process from which they are
-summed has shorter numbers. Each result here says in its notes that it isn't the proved program's.
+The program's rank tests and rank intervals end where a number outgrows it, and in older programs scores and rearrangements did too. The
+process from which they are worked out has shorter numbers. Each result here says in its notes that it isn't the proved program's.
 """
 
 import csv

@@ -288,8 +288,8 @@ def _fractions(value, key=None):
 def _read_certificate(text):
     try:
         top = _fractions(json.loads(text))
-        if top["kind"] != "quantreg-certificate" or top["version"] not in (1, 2):
-            raise ReportError(1, "no certificate of version 1 or 2")
+        if top["kind"] != "quantreg-certificate" or top["version"] not in (1, 2, 3):
+            raise ReportError(1, "no certificate of version 1, 2 or 3")
         return Certificate(**{key: value for key, value in top.items() if key != "kind"})
     except ReportError:
         raise

@@ -370,7 +370,7 @@ class OtherReports(unittest.TestCase):
         self.assertEqual(report.segments[1]["coef"], [F(3, 2), F(1, 2)])
         self.assertEqual(report.segments[0]["sides"], "*+*")
         self.assertEqual(report.to_frame().iloc[1].tolist(), [1.5, 0.5])
-        for text in ("{", "{}", CERTIFICATE.replace('"version":1', '"version":3'), CERTIFICATE.replace('"3/2"', '"3/0"')):
+        for text in ("{", "{}", CERTIFICATE.replace('"version":1', '"version":4'), CERTIFICATE.replace('"3/2"', '"3/0"')):
             with self.assertRaises(ReportError):
                 read_report(text)
 

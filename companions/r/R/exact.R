@@ -1,7 +1,7 @@
 # Answers worked out from processes where the program ends with status 7, by the fractions of any size of the package gmp.
 #
-# The program's own sums of scores, rearrangements and rank intervals end where a number outgrows it; the fits from which they are worked out
-# have shorter numbers. Each result says in its notes that it isn't the proved program's.
+# The program's rank tests and rank intervals end where a number outgrows it, and in older programs scores and rearrangements did too; the
+# fits from which they are worked out have shorter numbers. Each result says in its notes that it isn't the proved program's.
 
 has_gmp <- function() requireNamespace("gmp", quietly = TRUE)
 

@@ -53,12 +53,12 @@ fault_sentences <- c(
     "design: UnknownLevel" = "This record to be predicted has a level that no fitted record has. Leave the record out, or the factor.",
     "solver: Dependent" = "The columns are linearly dependent: times these numbers they add up to 0 in every record. Leave out one of those whose number isn't 0.",
     "solver: PivotLimit" = "The simplex algorithm isn't done after so many pivots. Allow more by --pivots, to 10,000,000, or fit a smaller range.",
-    "solver: Overflow" = "A number needs more than 127 bits: on the way to the report, though the fit exists; or, where the place is check, in a condition that is false. See 'When a run ends with status 7' in the manual: mostly, round columns of long decimals.",
-    "certificate: CertTooLong" = "The certificate has more than 2^26 bytes, or more than 2^30 rows times segments. Certify a smaller range.",
+    "solver: Overflow" = "A number needs more than 127 bits on the way to the report, though the fit exists. See 'When a run ends with status 7' in the manual: mostly, round columns of long decimals.",
+    "certificate: CertTooLong" = "The certificate has more than 2^26 bytes, more than 2^30 rows times segments, or a number of more than 65,536 digits. Certify a smaller range, or shorter columns.",
     "certificate: NotJson" = "The input is no JSON. Hand in what certify has written, whole.",
     "certificate: Shape" = "The certificate has something else at this path than there should be. Hand in what certify has written, unchanged.",
-    "certificate: Version" = "The certificate has another version than 1 and 2. Take a program that knows this version.",
-    "certificate: Number" = "The text at this path is no number, or one of more than 127 bits. Hand in what certify has written, or check it by quantreg-check.",
+    "certificate: Version" = "The certificate has another version than 1, 2 and 3. Take a program that knows this version.",
+    "certificate: Number" = "The text at this path is no number, or one that is wider than its version takes. Hand in what certify has written, or check it by quantreg-check.",
     "certificate: TooLarge" = "The certificate has more than 128 columns, 16,384 rows, 2^20 segments, 8,192 intervals, or 2^30 rows times segments. Check it by quantreg-check.",
     "check: Rejected" = "This condition of the certificate is false, so that nothing shows its fits to be optimal. Don't rely on them: see Certificates in the manual for the condition, and fit the table anew."
 )

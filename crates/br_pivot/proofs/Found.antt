@@ -5,7 +5,7 @@ use Rattle.rational_laws.specs.Fraction.{Fraction}
 use Rattle.rational_laws.specs.Rational.{ℚ}
 use Rattle.loss_model.specs.declared.problem.Problem.{Problem}
 use Rattle.loss_model.specs.declared.vertex.Basis.{Basis}
-use Rattle.loss_model.specs.Problem.{value_at, sample}
+use Rattle.loss_model.specs.Problem.{number_at, sample}
 use Rattle.loss_model.proofs.Duality.{minimum}
 use Rattle.basis_inverse.specs.Square.{Square, inverse_entry}
 use Rattle.pivot_model.specs.Duals.{HasCosts}
@@ -40,9 +40,9 @@ module _ {F : Type 0} (value : F → Fraction) (theta : ℚ) (limit : ℕ) (s : 
       h.fitted.vertex h.fitted.basic costs h.solved.stop in
       record {
         solution = record {
-          minimises = minimum (sample value p) theta (value_at value s.fitted.vertex.coef) _ optimal;
+          minimises = minimum (sample value p) theta (number_at s.fitted.vertex.coef) _ optimal;
           dual = optimal;
-          lawful = at_taken t (λ rows a. IsSolvingTrail value (sample value p) theta s.reached.trail rows) under.lawful;
+          lawful = at_taken t (λ rows a. IsSolvingTrail (sample value p) theta s.reached.trail rows) under.lawful;
           inverse = t.inverse;
           stop = at_taken t (λ rows a. HasNoNegativeSlope (sample value p) (slice_index rows) a theta) h.solved.stop;
           vertex = at_taken t (λ rows a. IsVertexAt value p rows a s.fitted.vertex) h.fitted.vertex;

@@ -6,7 +6,7 @@ use Rattle.rational_laws.specs.Rational.{ℚ}
 use Rattle.loss_model.specs.declared.problem.Problem.{Problem}
 use Rattle.loss_model.specs.declared.stop.Stop.{Stop}
 use Rattle.loss_model.specs.declared.stop.Stop.TheVariants.{OutOfMemory, PivotLimit, Overflow, Dependent}
-use Rattle.loss_model.specs.Problem.{value_at, sample}
+use Rattle.loss_model.specs.Problem.{number_at, sample}
 use Rattle.loss_model.specs.StartStop.{IsStartStop}
 use Rattle.basis_inverse.specs.Square.{inverse_entry}
 use Rattle.pivot_model.specs.Duals.{HasCosts}
@@ -19,9 +19,9 @@ use Rattle.br_pivot.specs.Solves.{IsLimited}
 use Rattle.fraction_tableau.proofs.Inverses.{basis_of, ends_of}
 
 module _ {F : Type 0} (value : F → Fraction) (range : ℕ) (p : Problem F) (theta : ℚ) (limit : ℕ) where
-  solution_limited : (s : Solved F) → HasCosts (sample value p) theta → IsSolution value p theta s → length s.trail.steps ≤ limit → ¬ IsLimited value (sample value p) theta limit
+  solution_limited : (s : Solved F) → HasCosts (sample value p) theta → IsSolution value p theta s → length s.trail.steps ≤ limit → ¬ IsLimited (sample value p) theta limit
   solution_limited s costs h short (trail, reached) =
-      one_trail value (sample value p) theta costs s.trail trail s.basis.rows limit h.lawful
+      one_trail (sample value p) theta costs s.trail trail s.basis.rows limit h.lawful
       (record { size = h.inverse.size; a = inverse_entry value s.inverse; is_basis = basis_of value p s.basis.rows s.inverse h.inverse; ends = ends_of value p s.basis.rows s.inverse h.inverse; holds = h.stop })
       short reached
 
@@ -40,5 +40,5 @@ module _ {F : Type 0} (value : F → Fraction) (range : ℕ) (p : Problem F) (th
         stopped = h;
         limited = λ reached.
             let more = reached.1.more in
-            h.dependence.some (full_rank (sample value p) (slice_index reached.1.basis) more.a more.is_basis (value_at value combination) h.dependence.zero h.dependence.column h.dependence.within);
+            h.dependence.some (full_rank (sample value p) (slice_index reached.1.basis) more.a more.is_basis (number_at combination) h.dependence.zero h.dependence.column h.dependence.within);
       }

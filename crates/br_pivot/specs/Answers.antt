@@ -20,4 +20,4 @@ module _ {F : Type 0} (value : F → Fraction) where
   pub record IsAnswer (range : ℕ) (p : Problem F) (theta : ℚ) (limit : ℕ) (r : Result (Solved F) (Stop F)) : Type 0 where
     pub optimum : IfOk r (IsOptimum p theta limit)
     pub stopped : IfErr r (IsSolveStop value range p theta limit)
-    pub limited : IsLimited value (sample value p) theta limit → IsLimitAnswer r
+    pub limited : IsLimited (sample value p) theta limit → IsLimitAnswer r

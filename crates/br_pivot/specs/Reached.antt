@@ -13,6 +13,6 @@ use Rattle.br_pivot.specs.declared.reached.Reached.{Reached}
 pub record IsReached {F : Type 0} (value : F → Fraction) (p : Problem F) (theta : ℚ) (limit : ℕ) (r : Reached F) : Type 0 where
   pub kept : IsKept value r.tableau
   pub problem : r.tableau.problem ≡ p
-  pub lawful : IsSolvingTrail value (sample value p) theta r.trail r.tableau.rows
+  pub lawful : IsSolvingTrail (sample value p) theta r.trail r.tableau.rows
   pub stop : HasNoNegativeSlope (sample value p) (slice_index r.tableau.rows) (place value r.tableau).inverse theta
   pub short : length r.trail.steps ≤ limit

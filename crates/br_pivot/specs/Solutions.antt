@@ -5,7 +5,7 @@ use Rattle.rational_laws.specs.Rational.{ℚ}
 use Rattle.loss_model.specs.declared.problem.Problem.{Problem}
 use Rattle.loss_model.specs.Sample.{Minimises}
 use Rattle.loss_model.specs.Dual.{IsDual}
-use Rattle.loss_model.specs.Problem.{value_at, sample}
+use Rattle.loss_model.specs.Problem.{number_at, sample}
 use Rattle.loss_model.specs.Vertex.{dual_value}
 use Rattle.basis_inverse.specs.Square.{inverse_entry}
 use Rattle.pivot_model.specs.Steps.{HasNoNegativeSlope}
@@ -18,9 +18,9 @@ use Rattle.br_pivot.specs.declared.solve.Solved.{Solved}
 -- and the basic values, are feasible and of equal cost; and they are those of the basis to which the
 -- lawful trail leads, at which no step is left
 pub record IsSolution {F : Type 0} (value : F → Fraction) (p : Problem F) (theta : ℚ) (s : Solved F) : Type 0 where
-  pub minimises : Minimises (sample value p) theta (value_at value s.vertex.coef)
-  pub dual : IsDual (sample value p) theta (value_at value s.vertex.coef) (dual_value value p s.vertex s.basic theta)
-  pub lawful : IsSolvingTrail value (sample value p) theta s.trail s.basis.rows
+  pub minimises : Minimises (sample value p) theta (number_at s.vertex.coef)
+  pub dual : IsDual (sample value p) theta (number_at s.vertex.coef) (dual_value value p s.vertex s.basic theta)
+  pub lawful : IsSolvingTrail (sample value p) theta s.trail s.basis.rows
   pub inverse : IsInverseOf value p s.basis.rows s.inverse
   pub stop : HasNoNegativeSlope (sample value p) (slice_index s.basis.rows) (inverse_entry value s.inverse) theta
   pub vertex : IsVertexAt value p s.basis.rows (inverse_entry value s.inverse) s.vertex

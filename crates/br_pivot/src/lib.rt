@@ -10,10 +10,13 @@
 //!
 //! `rank_inversion` calls it so:
 //! ```text
-//! match solve_at(alloc, self.problem, tau, self.limit) {
-//!     Ok(solved) => Ok(SolvedAt { tau, solved }),
-//!     Err(stop) => Err(self.first_stop(tau, stop)),
-//! }
+//! let solved = match solve_at(alloc, problem, asked.tau, limit) {
+//!     Ok(solved) => solved,
+//!     Err(stop) => {
+//!         drop(test);
+//!         return Err(stop);
+//!     }
+//! };
 //! ```
 #![tactic(auto)]
 

@@ -16,7 +16,7 @@ use whole_tableau::{Setting, WholeTableau};
 #[derive(Drop)]
 pub struct Reached<'a, F: Exact> {
     pub tableau: WholeTableau<'a, F>,
-    pub trail: Trail<F>,
+    pub trail: Trail,
 }
 
 /// Solves at theta in whole numbers, and hands out the basis as they keep it.

@@ -13,6 +13,7 @@ ghost use Rattle.br_pivot.specs.Solves.{IsSolveStop, IsLimited, IsLimitAnswer};
 use basis_inverse::Inverse;
 use frac_core::{Exact, List};
 use loss_model::{Basis, Problem, Stop, Trail, Vertex};
+use ratio::Ratio;
 use std::alloc::Global;
 use tableau::{Halt, Progress, Solution, halt_of, solve, stop_of};
 use whole_inverse::Obstacle;
@@ -22,11 +23,11 @@ use whole_tableau::setting_of;
 /// basis by position, its inverse, and the trail that leads to it.
 #[derive(Drop)]
 pub struct Solved<F: Exact> {
-    pub vertex: Vertex<F>,
-    pub basic: List<F>,
+    pub vertex: Vertex,
+    pub basic: List<Ratio>,
     pub inverse: Inverse<F>,
     pub basis: Basis,
-    pub trail: Trail<F>,
+    pub trail: Trail,
 }
 
 /// The solution with the inverse of its basis.
@@ -152,7 +153,7 @@ pub fn solve_at<F: Exact>(
     ensures solution { IfOk result (IsSolution F.value problem.now (rational (F.value theta))) }
     ensures short { IfOk result (λ s. length s.trail.steps ≤ limit) }
     ensures stopped { IfErr result (IsSolveStop F.value F.range problem.now (rational (F.value theta)) limit) }
-    ensures limited { IsLimited F.value (sample F.value problem.now) (rational (F.value theta)) limit → IsLimitAnswer result }
+    ensures limited { IsLimited (sample F.value problem.now) (rational (F.value theta)) limit → IsLimitAnswer result }
 {
     match solve_in_wholes(alloc, problem, theta, limit) {
         Some(answer) => answer,

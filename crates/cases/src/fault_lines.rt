@@ -70,11 +70,6 @@ fn spill_of(text: &str) -> Option<Spill<Frac128>> {
     })
 }
 
-fn prediction_of(text: &str) -> Option<Place> {
-    let rec = text.parse::<u32>().ok()?;
-    Some(Place::Predict { rec })
-}
-
 fn interval_of(text: &str) -> Option<Place> {
     let (column, tau) = text.split_once(' ')?;
     let column = column.parse::<u32>().ok()?;
@@ -88,7 +83,6 @@ fn place_of(text: &str) -> Option<Place> {
         "process" => Some(Place::Process),
         "full" => Some(Place::Full),
         "path" => Some(Place::Path),
-        "predict" => prediction_of(rest),
         "interval" => interval_of(rest),
         _ => None,
     }

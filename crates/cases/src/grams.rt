@@ -9,7 +9,6 @@ ghost use Rattle.loss_model.specs.Problem.{sample, IsWellShaped};
 use crate::losses::problem_of;
 use crate::nested::{tell_nested, tell_without};
 use crate::numbers::numbers_of;
-use crate::ratios::tell_ratio;
 use crate::told::Told;
 use basis_inverse::start;
 use frac_core::{Exact, Frac64, Frac128};
@@ -63,16 +62,6 @@ fn tell_column<F: Exact>(told: &mut Told, problem: &Problem<F>, column: u32) {
     }
 }
 
-/// Numbers of any size with blanks between.
-pub(crate) fn tell_ratios(told: &mut Told, values: &[Ratio]) {
-    let mut mark = "";
-    for value in values {
-        told.put(mark);
-        tell_ratio(told, value);
-        mark = " ";
-    }
-}
-
 fn tell_wide_column(told: &mut Told, problem: &Problem<Frac128>, column: u32) {
     if !is_shaped(problem) {
         return told.put("no shape");
@@ -81,7 +70,7 @@ fn tell_wide_column(told: &mut Told, problem: &Problem<Frac128>, column: u32) {
         return told.put("no column");
     }
     match weighted_column(told.alloc(), problem, column) {
-        Ok(entries) => tell_ratios(told, entries.as_slice()),
+        Ok(entries) => told.put_ratios(entries.as_slice()),
         Err(_) => told.put("no memory"),
     }
 }
@@ -110,7 +99,7 @@ fn tell_inverse_row(told: &mut Told, inverse: &GramInverse, columns: u32, row: u
     told.put(if row == 0 { "" } else { "; " });
     for column in 0..columns {
         told.put(if column == 0 { "" } else { " " });
-        tell_ratio(told, inverse.entry(row, column));
+        told.put_ratio(inverse.entry(row, column));
     }
 }
 
@@ -161,7 +150,7 @@ pub(crate) fn tell_product(told: &mut Told, asked: &str) {
     let left = widened(told.alloc(), left).unwrap_or(Vec::new(told.alloc()));
     let right = widened(told.alloc(), right).unwrap_or(Vec::new(told.alloc()));
     match product_of(told.alloc(), left.as_slice(), right.as_slice()) {
-        Some(product) => tell_ratio(told, &product),
+        Some(product) => told.put_ratio(&product),
         None => told.put("no product"),
     }
 }

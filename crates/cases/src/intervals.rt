@@ -7,47 +7,48 @@ use crate::told::Told;
 use crate::trails::{tell_rows, tell_stop, tell_trail, tell_vertex};
 use basis_inverse::{Inverse, start};
 use frac_core::{Exact, Frac64, Frac128, read_number};
-use loss_model::{Beyond, Bound, End, Interval, Problem, Stop, widen_interval, widen_stop};
+use loss_model::{Beyond, Bound, End, Interval, Problem, Stop};
 use rank_inversion::{
     Asked, GramInverse, RankTest, gram_inverse, interval, interval_by_parts, interval_in_wholes,
     rank_test,
 };
+use ratio::Ratio;
 use std::alloc::Global;
 use test_kit::{are_data, is_less, is_ordered, is_shaped};
 
 // ---- what is told
 
-fn tell_bound<F: Exact>(told: &mut Told, bound: Bound<F>) {
+fn tell_bound(told: &mut Told, bound: &Bound<Ratio>) {
     match bound {
-        Bound::Finite(value) => told.put_fraction(value),
+        Bound::Finite(value) => told.put_ratio(value),
         Bound::Infinite => told.put("none"),
     }
 }
 
-fn tell_end<F: Exact>(told: &mut Told, end: &End<F>) {
+fn tell_end(told: &mut Told, end: &End) {
     told.put("; ");
-    tell_bound(told, end.bound);
+    tell_bound(told, &end.bound);
     told.put(" ");
     tell_vertex(told, &end.vertex);
     told.put(" inside ");
-    told.put_fractions(end.inside.as_slice());
+    told.put_ratios(end.inside.as_slice());
     let (name, values) = match &end.beyond {
         Beyond::Outside(outside) => (" outside ", outside),
         Beyond::Ray(ray) => (" ray ", ray),
     };
     told.put(name);
-    told.put_fractions(values.as_slice());
+    told.put_ratios(values.as_slice());
 }
 
-fn tell_interval<F: Exact>(told: &mut Told, found: &Interval<F>) {
+fn tell_interval(told: &mut Told, found: &Interval) {
     told.put_named("", found.column);
     told.put(" ");
-    told.put_fraction(found.tau);
+    told.put_ratio(&found.tau);
     told.put(" ");
-    told.put_fraction(found.crit);
+    told.put_ratio(&found.crit);
     told.put("; ");
     match &found.projection {
-        Some(factors) => told.put_fractions(factors.as_slice()),
+        Some(factors) => told.put_ratios(factors.as_slice()),
         None => told.put("none"),
     }
     told.put("; ");
@@ -57,14 +58,14 @@ fn tell_interval<F: Exact>(told: &mut Told, found: &Interval<F>) {
 }
 
 // The value of an end, and the rows of its vertex.
-fn tell_place<F: Exact>(told: &mut Told, end: &End<F>) {
-    tell_bound(told, end.bound);
+fn tell_place(told: &mut Told, end: &End) {
+    tell_bound(told, &end.bound);
     told.put(" by");
     tell_rows(told, end.vertex.basis.rows.as_slice());
 }
 
 // An interval as a word asks for it.
-fn tell_found<F: Exact>(told: &mut Told, word: &str, found: &Interval<F>) {
+fn tell_found(told: &mut Told, word: &str, found: &Interval) {
     match word {
         "interval" => tell_interval(told, found),
         _ => {
@@ -77,7 +78,7 @@ fn tell_found<F: Exact>(told: &mut Told, word: &str, found: &Interval<F>) {
 
 // ---- intervals
 
-type Answer<F> = Option<Result<Interval<F>, Stop<F>>>;
+type Answer<F> = Option<Result<Interval, Stop<F>>>;
 
 fn tell_answer<F: Exact>(told: &mut Told, word: &str, answer: &Answer<F>) {
     match answer {
@@ -143,23 +144,6 @@ pub(crate) fn tell_asked<F: Exact>(told: &mut Told, problem: &Problem<F>, word: 
     drop(answer);
 }
 
-// The same in 128 bits.
-fn widened(alloc: Global, answer: &Answer<Frac64>) -> Answer<Frac128> {
-    match answer.as_ref()? {
-        Ok(found) => Some(Ok(widen_interval(alloc, found).ok()?)),
-        Err(stop) => Some(Err(widen_stop(alloc, stop).ok()?)),
-    }
-}
-
-/// The interval in 64 bits, told in 128.
-pub(crate) fn tell_widened(told: &mut Told, problem: &Problem<Frac64>, text: &str) {
-    let answer = answer_to(told.alloc(), problem, "interval", text);
-    let wide = widened(told.alloc(), &answer);
-    drop(answer);
-    tell_answer(told, "interval", &wide);
-    drop(wide);
-}
-
 // ---- the inverse of the Gram matrix, and the test of a column
 
 fn gram_of<F: Exact>(alloc: Global, problem: &Problem<F>) -> Option<GramInverse<F>>
@@ -211,7 +195,7 @@ fn test_of<F: Exact>(alloc: Global, problem: &Problem<F>, text: &str) -> Option<
 pub(crate) fn tell_test<F: Exact>(told: &mut Told, problem: &Problem<F>, text: &str) {
     match test_of(told.alloc(), problem, text) {
         Some(test) => {
-            told.put_fractions(test.factors.as_slice());
+            told.put_ratios(test.factors.as_slice());
             told.put("; ");
             told.put_fraction(test.bound);
         }

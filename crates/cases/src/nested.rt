@@ -4,10 +4,9 @@ ghost use Rattle.std.specs.Prelude.{◌≡◌, ◌<◌, All, IsTrue, length};
 ghost use Rattle.std.specs.List.Sorted.{IsStrictlyIncreasing};
 ghost use Rattle.nested_test.specs.Restricted.{AreTested};
 
-use crate::grams::{are_independent, tell_ratios, widened};
+use crate::grams::{are_independent, widened};
 use crate::losses::tell_problem;
 use crate::numbers::counts_of;
-use crate::ratios::tell_ratio;
 use crate::told::Told;
 use frac_core::{Exact, Frac128};
 use loss_model::Problem;
@@ -74,9 +73,9 @@ fn tell_statistic<F: Exact>(
 ) {
     match statistic_of(told.alloc(), full, tested, wilcoxon) {
         Some(found) => {
-            tell_ratios(told, found.scores.as_slice());
+            told.put_ratios(found.scores.as_slice());
             told.put("; ");
-            tell_ratio(told, &found.statistic);
+            told.put_ratio(&found.statistic);
         }
         None => told.put("no statistic"),
     }

@@ -10,8 +10,9 @@ use crate::told::Told;
 use frac_core::{Exact, Frac128, List};
 use lambda_path::{PathFault, path_problem};
 use loss_model::{Problem, Process, Segment};
+use ratio::Ratio;
 use std::alloc::Global;
-use test_kit::is_shaped;
+use test_kit::{is_shaped, short_parts};
 
 // What `path_problem` answers where its conditions are met.
 fn path_of(
@@ -38,13 +39,15 @@ fn tell_fault(told: &mut Told, fault: &PathFault) {
 }
 
 // Both ends, the losses there, and the coefficients.
-fn tell_segment(told: &mut Told, segment: &Segment<Frac128>) {
-    told.put_numbers(&[segment.lo, segment.hi, segment.loss_lo, segment.loss_hi]);
-    told.put(" ");
-    told.put_numbers(segment.vertex.coef.as_slice());
+fn tell_segment(told: &mut Told, segment: &Segment) {
+    for number in [&segment.lo, &segment.hi, &segment.loss_lo, &segment.loss_hi] {
+        told.put_ratio(number);
+        told.put(" ");
+    }
+    told.put_ratios(segment.vertex.coef.as_slice());
 }
 
-fn tell_segments(told: &mut Told, segments: &[Segment<Frac128>]) {
+fn tell_segments(told: &mut Told, segments: &[Segment]) {
     let mut mark = "";
     for segment in segments {
         told.put(mark);
@@ -53,30 +56,39 @@ fn tell_segments(told: &mut Told, segments: &[Segment<Frac128>]) {
     }
 }
 
-fn holds(segment: &Segment<Frac128>, lambda: Frac128) -> bool {
-    segment.lo.compare(lambda).is_le() && lambda.compare(segment.hi).is_le()
+fn holds(alloc: Global, segment: &Segment, lambda: &Ratio) -> bool {
+    let low = segment.lo.compare(alloc, lambda);
+    let high = lambda.compare(alloc, &segment.hi);
+    low.is_ok_and(|it| it.is_le()) && high.is_ok_and(|it| it.is_le())
+}
+
+// Numbers of an answer of a small problem, in 128 bits.
+fn narrowed(alloc: Global, values: &[Ratio]) -> Option<Vec<Frac128>> {
+    let mut made = Vec::new(alloc);
+    for value in values {
+        let (n, d) = short_parts(value)?;
+        made.push(Frac128::from_parts(n, d)?).ok()?;
+    }
+    Some(made)
 }
 
 // The loss at a lambda of the coefficients of the segment that holds it.
-fn tell_least(
-    told: &mut Told,
-    path: &Problem<Frac128>,
-    segments: &[Segment<Frac128>],
-    lambda: Frac128,
-) {
+fn tell_least(told: &mut Told, path: &Problem<Frac128>, segments: &[Segment], lambda: Frac128) {
     told.put(" | ");
-    match segments.iter().find(|segment| holds(segment, lambda)) {
-        Some(segment) => tell_loss(told, path, segment.vertex.coef.as_slice(), lambda),
+    let alloc = told.alloc();
+    let Ok(wanted) = Ratio::widen(alloc, lambda) else {
+        return told.put("no memory");
+    };
+    let found = segments
+        .iter()
+        .find(|segment| holds(alloc, segment, &wanted));
+    match found.and_then(|segment| narrowed(alloc, segment.vertex.coef.as_slice())) {
+        Some(coef) => tell_loss(told, path, coef.as_slice(), lambda),
         None => told.put("no segment"),
     }
 }
 
-fn tell_process(
-    told: &mut Told,
-    path: &Problem<Frac128>,
-    process: &Process<Frac128>,
-    lambdas: &[Frac128],
-) {
+fn tell_process(told: &mut Told, path: &Problem<Frac128>, process: &Process, lambdas: &[Frac128]) {
     let segments = process.segments.as_slice();
     tell_segments(told, segments);
     for lambda in lambdas {

@@ -1,9 +1,8 @@
 //! What is asked of the solver and of rank intervals: a problem, in both widths.
 //!
-//! A problem of 64 bits is asked in both, and a rank interval in 64 bits is told in 128 once more: where the answers are the same, it is told
-//! once; else the others stand behind ` | `. Behind `wide` all is asked in 128 bits alone, and behind `narrow` in 64.
+//! A problem of 64 bits is asked in both: where the answers are the same, it is told once; else the other stands behind ` | `. Behind `wide` all is asked in 128 bits alone, and behind `narrow` in 64.
 
-use crate::intervals::{tell_asked, tell_beginning, tell_gram, tell_test, tell_widened};
+use crate::intervals::{tell_asked, tell_beginning, tell_gram, tell_test};
 use crate::losses::problem_of;
 use crate::solves::tell_limited;
 use crate::starts::{tell_begun, tell_exchanged, tell_standing, tell_stay};
@@ -35,11 +34,6 @@ fn tell_both(told: &mut Told, problem: &Problem<Frac128>, narrow: &Problem<Frac6
     let mut other = Told::new(told.alloc());
     tell_in(&mut other, narrow, asked);
     told.put_other(&other);
-    if let Some(text) = asked.strip_prefix("interval ") {
-        let mut other = Told::new(told.alloc());
-        tell_widened(&mut other, narrow, text);
-        told.put_other(&other);
-    }
 }
 
 fn tell_of(told: &mut Told, problem: &Problem<Frac128>, asked: &str) {

@@ -5,7 +5,6 @@ ghost use Rattle.std.specs.Prelude.{◌≡◌, ◌<◌, ◌≤◌, length, IsTru
 ghost use Rattle.gram_check.specs.Sizes.{IsSquare};
 
 use crate::numbers::wholes_of;
-use crate::ratios::tell_ratio;
 use crate::told::Told;
 use frac_core::List;
 use gram_check::{Factors, factors_of, length_of};
@@ -40,7 +39,7 @@ fn tell_share(told: &mut Told, number: &Integer, under: &Natural)
     requires { 1 ≤ under.now }
 {
     match Ratio::new(told.alloc(), number, under) {
-        Ok(share) => tell_ratio(told, &share),
+        Ok(share) => told.put_ratio(&share),
         Err(_) => told.put("no memory"),
     }
 }

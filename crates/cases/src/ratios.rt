@@ -21,7 +21,8 @@ fn combine(alloc: Global, numbers: &mut Vec<Ratio>, word: &str) -> Option<Ratio>
     combined(alloc, word, &left, &right)
 }
 
-fn widened(alloc: Global, text: &str) -> Option<Ratio> {
+/// The number of a text, in any size.
+pub(crate) fn widened(alloc: Global, text: &str) -> Option<Ratio> {
     Ratio::widen(alloc, number_of(text)?).ok()
 }
 
@@ -60,24 +61,10 @@ fn answer(alloc: Global, asked: &str) -> Option<Ratio> {
     numbers.pop()
 }
 
-fn text_of(alloc: Global, value: &Ratio) -> Option<Vec<u8>> {
-    let mut text = Vec::new(alloc);
-    value.write(alloc, &mut text).ok()?;
-    Some(text)
-}
-
-/// Tells a number of any size.
-pub(crate) fn tell_ratio(told: &mut Told, value: &Ratio) {
-    match text_of(told.alloc(), value) {
-        Some(text) => told.put_bytes(text.as_slice()),
-        None => told.put("no memory"),
-    }
-}
-
 /// Tells what an expression comes to.
 pub(crate) fn tell(told: &mut Told, asked: &str) {
     match answer(told.alloc(), asked) {
-        Some(value) => tell_ratio(told, &value),
+        Some(value) => told.put_ratio(&value),
         None => told.put("no number"),
     }
 }

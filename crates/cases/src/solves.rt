@@ -6,6 +6,7 @@ use crate::trails::{tell_rows, tell_stop, tell_trail, tell_vertex};
 use br_pivot::{Solved, solve_at};
 use frac_core::Exact;
 use loss_model::{Problem, Process, Segment, Stop, Trail};
+use ratio::Ratio;
 use std::alloc::Global;
 use tau_process::process;
 use test_kit::{has_costs, is_ordered, is_shaped};
@@ -32,7 +33,7 @@ pub(crate) fn walked<F: Exact>(
     problem: &Problem<F>,
     (lo, hi): (F, F),
     limit: u32,
-) -> Option<Result<Process<F>, Stop<F>>> {
+) -> Option<Result<Process, Stop<F>>> {
     if !is_shaped(problem) {
         return None;
     }
@@ -50,7 +51,7 @@ pub(crate) fn walked<F: Exact>(
 
 // ---- answers
 
-fn tell_count<F: Exact>(told: &mut Told, trail: &Trail<F>) {
+fn tell_count(told: &mut Told, trail: &Trail) {
     told.put_count(trail.steps.as_slice().len());
 }
 
@@ -65,30 +66,30 @@ fn tell_solved<F: Exact>(told: &mut Told, word: &str, solved: &Solved<F>) {
     told.put("; ");
     tell_vertex(told, &solved.vertex);
     told.put("; ");
-    told.put_fractions(solved.basic.as_slice());
+    told.put_ratios(solved.basic.as_slice());
 }
 
-fn tell_behind<F: Exact>(told: &mut Told, mark: &str, value: F) {
+fn tell_behind(told: &mut Told, mark: &str, value: &Ratio) {
     told.put(mark);
-    told.put_fraction(value);
+    told.put_ratio(value);
 }
 
 /// The ends of a segment, its vertex, and the dual values of the basic rows and the loss at both ends.
-pub(crate) fn tell_segment<F: Exact>(told: &mut Told, segment: &Segment<F>) {
-    tell_behind(told, "", segment.lo);
-    tell_behind(told, " ", segment.hi);
+pub(crate) fn tell_segment(told: &mut Told, segment: &Segment) {
+    tell_behind(told, "", &segment.lo);
+    tell_behind(told, " ", &segment.hi);
     told.put(" ");
     tell_vertex(told, &segment.vertex);
     told.put(" from ");
-    told.put_fractions(segment.basic_lo.as_slice());
+    told.put_ratios(segment.basic_lo.as_slice());
     told.put(" to ");
-    told.put_fractions(segment.basic_hi.as_slice());
-    tell_behind(told, " loss ", segment.loss_lo);
-    tell_behind(told, " ", segment.loss_hi);
+    told.put_ratios(segment.basic_hi.as_slice());
+    tell_behind(told, " loss ", &segment.loss_lo);
+    tell_behind(told, " ", &segment.loss_hi);
 }
 
 // How it is reached, and its segments; or how many pivots it took.
-fn tell_process<F: Exact>(told: &mut Told, word: &str, process: &Process<F>) {
+fn tell_process(told: &mut Told, word: &str, process: &Process) {
     if word == "count" {
         return tell_count(told, &process.trail);
     }

@@ -5,19 +5,22 @@
 
 ghost use Rattle.std.specs.Prelude.{◌≡◌, ◌+◌, ◌<◌, ◌≤◌, ◌^◌, All, IsTrue, length};
 
-use crate::numbers::{number_of, numbers_of};
-use crate::ratios::tell_ratio;
+use crate::grams::widened;
+use crate::numbers::numbers_of;
+use crate::ratios::widened as widened_number;
 use crate::told::Told;
-use frac_core::{Exact, Frac128, List};
-use loss_model::{Basis, Process, Segment, Short, Trail, Vertex};
-use predict_steps::{RearrangedStep, Step, rearrange, steps};
+use frac_core::{Frac128, List};
+use loss_model::{Basis, Process, Segment, Trail, Vertex};
+use predict_steps::{Step, rearrange, steps};
+use ratio::Ratio;
 use std::alloc::Global;
 
-fn segment(alloc: Global, lo: Frac128, hi: Frac128, coef: List<Frac128>) -> Segment<Frac128> {
+// Of a low end, a high end and coefficients.
+fn segment(alloc: Global, lo: Ratio, hi: Ratio, coef: List<Ratio>) -> Option<Segment> {
     let basis = Basis {
         rows: List::new(alloc),
     };
-    Segment {
+    Some(Segment {
         lo,
         hi,
         vertex: Vertex {
@@ -27,12 +30,12 @@ fn segment(alloc: Global, lo: Frac128, hi: Frac128, coef: List<Frac128>) -> Segm
         },
         basic_lo: List::new(alloc),
         basic_hi: List::new(alloc),
-        loss_lo: Frac128::zero(),
-        loss_hi: Frac128::zero(),
-    }
+        loss_lo: Ratio::zero(alloc).ok()?,
+        loss_hi: Ratio::zero(alloc).ok()?,
+    })
 }
 
-fn process(alloc: Global, segments: Vec<Segment<Frac128>>) -> Process<Frac128> {
+fn process(alloc: Global, segments: Vec<Segment>) -> Process {
     let trail = Trail {
         start: List::new(alloc),
         steps: List::new(alloc),
@@ -46,25 +49,26 @@ fn process(alloc: Global, segments: Vec<Segment<Frac128>>) -> Process<Frac128> {
 }
 
 // The end at the beginning of a part, and the numbers behind it.
-fn ended(alloc: Global, part: &str) -> Option<(Frac128, Vec<Frac128>)> {
+fn ended(alloc: Global, part: &str) -> Option<(Ratio, Vec<Ratio>)> {
     let (end, rest) = part.trim().split_once(' ').unwrap_or((part.trim(), ""));
-    Some((number_of(end)?, numbers_of(alloc, rest)?))
+    Some((widened_number(alloc, end)?, widened(alloc, rest)?))
 }
 
-fn segments_of(alloc: Global, low: &str, text: &str) -> Option<Vec<Segment<Frac128>>> {
+fn segments_of(alloc: Global, low: &str, text: &str) -> Option<Vec<Segment>> {
     let mut segments = Vec::new(alloc);
-    let mut lo = number_of(low)?;
+    let mut lo = widened_number(alloc, low)?;
     for part in text.split(';') {
         let (hi, coef) = ended(alloc, part)?;
+        let next = hi.copy(alloc).ok()?;
         segments
-            .push(segment(alloc, lo, hi, List::from(coef)))
+            .push(segment(alloc, lo, hi, List::from(coef))?)
             .ok()?;
-        lo = hi;
+        lo = next;
     }
     Some(segments)
 }
 
-fn has_entries(process: &Process<Frac128>, x: &[Frac128], offsets: &[Frac128]) -> bool
+fn has_entries(process: &Process, x: &[Frac128], offsets: &[Frac128]) -> bool
     ensures few { IsTrue result → length process.now.segments ≤ 2 ^ 32 }
     ensures terms { IsTrue result → length x.now + length offsets.now < 2 ^ 32 }
     ensures entries { IsTrue result → All (λ s. length x.now ≡ length s.vertex.coef) process.now.segments }
@@ -78,52 +82,47 @@ fn has_entries(process: &Process<Frac128>, x: &[Frac128], offsets: &[Frac128]) -
             .all(|s| s.vertex.coef.as_slice().len() == x.len())
 }
 
-fn tell_rearranged(told: &mut Told, steps: &[RearrangedStep<Frac128>]) {
+// Both ends and the value of each.
+fn tell_each(told: &mut Told, steps: &[Step]) {
     let mut mark = "";
     for step in steps {
         told.put(mark);
-        tell_ratio(told, &step.lo);
+        told.put_ratio(&step.lo);
         told.put(" ");
-        tell_ratio(told, &step.hi);
+        told.put_ratio(&step.hi);
         told.put(" ");
-        told.put_number(step.value);
+        told.put_ratio(&step.value);
         mark = "; ";
     }
 }
 
-fn tell_rearrangement(told: &mut Told, steps: &[Step<Frac128>]) {
+fn tell_rearrangement(told: &mut Told, steps: &[Step]) {
     if steps.is_empty() {
         return told.put("no steps");
     }
     match rearrange(told.alloc(), steps) {
-        Ok(made) => tell_rearranged(told, made.as_slice()),
+        Ok(made) => tell_each(told, made.as_slice()),
         Err(_) => told.put("no memory"),
     }
 }
 
-fn tell_steps(told: &mut Told, steps: &[Step<Frac128>]) {
-    let mut mark = "";
-    for step in steps {
-        told.put(mark);
-        told.put_numbers(&[step.lo, step.hi, step.value]);
-        mark = "; ";
-    }
+fn tell_steps(told: &mut Told, steps: &[Step]) {
+    tell_each(told, steps);
     told.put(" | ");
     tell_rearrangement(told, steps);
 }
 
-fn tell_predicted(told: &mut Told, process: &Process<Frac128>, x: &[Frac128], offsets: &[Frac128]) {
+fn tell_predicted(told: &mut Told, process: &Process, x: &[Frac128], offsets: &[Frac128]) {
     if !has_entries(process, x, offsets) {
         return told.put("other entries");
     }
-    match steps(told.alloc(), process, x, offsets, 3) {
+    match steps(told.alloc(), process, x, offsets) {
         Ok(made) => tell_steps(told, made.as_slice()),
-        Err(Short::Overflow(spill)) => told.put_spill(spill),
-        Err(Short::OutOfMemory) => told.put("no memory"),
+        Err(_) => told.put("no memory"),
     }
 }
 
-fn tell_fit(told: &mut Told, process: &Process<Frac128>, x: &str, offsets: &str) {
+fn tell_fit(told: &mut Told, process: &Process, x: &str, offsets: &str) {
     let x = numbers_of(told.alloc(), x);
     let offsets = numbers_of(told.alloc(), offsets);
     match (&x, &offsets) {
@@ -132,7 +131,7 @@ fn tell_fit(told: &mut Told, process: &Process<Frac128>, x: &str, offsets: &str)
     }
 }
 
-/// Tells the steps of record 3 and their rearrangement, or what overflows.
+/// Tells the steps of a record and their rearrangement.
 pub(crate) fn tell(told: &mut Told, asked: &str) {
     let mut parts = asked.split('|');
     let x = parts.next().unwrap_or("");
@@ -149,18 +148,16 @@ pub(crate) fn tell(told: &mut Told, asked: &str) {
 }
 
 // The steps from 0, whose text has the high end and the value of each.
-fn steps_of(alloc: Global, text: &str) -> Option<Vec<Step<Frac128>>> {
+fn steps_of(alloc: Global, text: &str) -> Option<Vec<Step>> {
     let mut made = Vec::new(alloc);
-    let mut lo = Frac128::zero();
+    let mut lo = Ratio::zero(alloc).ok()?;
     for part in text.split(';') {
         let (hi, value) = part.trim().split_once(' ')?;
-        let step = Step {
-            lo,
-            hi: number_of(hi)?,
-            value: number_of(value)?,
-        };
-        made.push(step).ok()?;
-        lo = step.hi;
+        let hi = widened_number(alloc, hi)?;
+        let next = hi.copy(alloc).ok()?;
+        let value = widened_number(alloc, value)?;
+        made.push(Step { lo, hi, value }).ok()?;
+        lo = next;
     }
     Some(made)
 }

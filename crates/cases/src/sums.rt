@@ -93,8 +93,8 @@ struct ShownEnd {
 fn shown_end(
     alloc: Global,
     whole: WholeProblem<'_>,
-    interval: &IntervalProof<Frac128>,
-    end: &End<Frac128>,
+    interval: &IntervalProof,
+    end: &End,
 ) -> ShownEnd
     requires { IsTable whole.problem.now whole.table.now }
 {

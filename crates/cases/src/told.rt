@@ -4,6 +4,7 @@ use crate::notation::bytes_of;
 use data_frame::{Frame, read_table};
 use frac_core::{Exact, Frac128, Op, Text, number_text};
 use loss_model::{Site, Spill};
+use ratio::Ratio;
 use std::alloc::Global;
 use std::fmt::Debug;
 
@@ -90,6 +91,25 @@ impl Told {
 
     pub(crate) fn put_number(&mut self, value: Frac128) {
         self.put_fraction(value);
+    }
+
+    /// A number of any size.
+    pub(crate) fn put_ratio(&mut self, value: &Ratio) {
+        let mut text = Vec::new(self.alloc);
+        match value.write(self.alloc, &mut text) {
+            Ok(()) => self.put_bytes(text.as_slice()),
+            Err(_) => self.whole = false,
+        }
+    }
+
+    /// The same of several, with a space between them.
+    pub(crate) fn put_ratios(&mut self, values: &[Ratio]) {
+        let mut mark = "";
+        for value in values {
+            self.put(mark);
+            self.put_ratio(value);
+            mark = " ";
+        }
     }
 
     pub(crate) fn put_count(&mut self, count: usize) {

@@ -27,17 +27,17 @@ fn tell_start(told: &mut Told, rows: &[Option<u32>]) {
 }
 
 // Steps by the parameter, the position and the row.
-fn tell_steps<F: Exact>(told: &mut Told, name: &str, steps: &[Exchange<F>]) {
+fn tell_steps(told: &mut Told, name: &str, steps: &[Exchange]) {
     told.put(name);
     for step in steps {
         told.put(" ");
-        told.put_fraction(step.theta);
+        told.put_ratio(&step.theta);
         told.put_named("@", step.position);
         told.put_named(":", step.row);
     }
 }
 
-pub(crate) fn tell_trail<F: Exact>(told: &mut Told, trail: &Trail<F>) {
+pub(crate) fn tell_trail(told: &mut Told, trail: &Trail) {
     tell_start(told, trail.start.as_slice());
     tell_steps(told, " steps", trail.steps.as_slice());
     tell_steps(told, " rise", trail.rise.as_slice());
@@ -55,13 +55,13 @@ pub(crate) fn tell_sides(told: &mut Told, sides: &[Side]) {
 }
 
 /// The basic rows, the sides of all rows and the coefficients.
-pub(crate) fn tell_vertex<F: Exact>(told: &mut Told, vertex: &Vertex<F>) {
+pub(crate) fn tell_vertex(told: &mut Told, vertex: &Vertex) {
     told.put("by");
     tell_rows(told, vertex.basis.rows.as_slice());
     told.put(" ");
     tell_sides(told, vertex.sides.as_slice());
     told.put(" at ");
-    told.put_fractions(vertex.coef.as_slice());
+    told.put_ratios(vertex.coef.as_slice());
 }
 
 pub(crate) fn tell_stop<F: Exact>(told: &mut Told, stop: &Stop<F>) {
@@ -78,7 +78,7 @@ pub(crate) fn tell_stop<F: Exact>(told: &mut Told, stop: &Stop<F>) {
         }
         Stop::Dependent { combination } => {
             told.put("Dependent ");
-            told.put_fractions(combination.as_slice());
+            told.put_ratios(combination.as_slice());
         }
         Stop::OutOfMemory => told.put("no memory"),
     }

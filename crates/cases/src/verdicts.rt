@@ -1,11 +1,10 @@
-//! What the checker finds in certificates: that all tests are true, the first that is false, or an operation that overflows.
+//! What the checker finds in certificates: that all tests are true, or the first that is false.
 
 use crate::certificates::{changed, read};
 use crate::told::Told;
-use cert_checker::{CheckStop, Rejection, Verdict, check};
+use cert_checker::{Rejection, Verdict, check};
 use cert_text::Cert;
-use frac_core::Frac128;
-use loss_model::Spill;
+use frac_core::OutOfMemory;
 use rq_fan::Open;
 use std::alloc::Global;
 use std::thread::Threads;
@@ -15,7 +14,7 @@ fn checked<R: Threads + Sync>(
     rt: &R,
     alloc: Global,
     cert: &Cert,
-) -> Option<Result<Verdict, CheckStop>> {
+) -> Option<Result<Verdict, OutOfMemory>> {
     if cert.problem.columns > 128 {
         return None;
     }
@@ -35,32 +34,21 @@ fn checked<R: Threads + Sync>(
 }
 
 // The condition, the segment or interval, the number there, and both sides.
-fn tell_rejection(told: &mut Told, found: Rejection) {
+fn tell_rejection(told: &mut Told, found: &Rejection) {
     told.put_named("rejected ", u32::from(found.condition));
     told.put_named(" ", found.index);
     told.put_named(" ", found.inner);
     told.put(": ");
-    told.put_numbers(&[found.left, found.right]);
-}
-
-// The place and the number of an operation, its kind and its operands.
-fn tell_spill(told: &mut Told, spill: Spill<Frac128>) {
-    told.put_named("overflow ", spill.site.first);
-    told.put_named(" ", spill.site.second);
-    told.put_named(" ", spill.site.third);
-    told.put_named(" ", spill.site.term);
+    told.put_ratio(&found.left);
     told.put(" ");
-    told.put_debug(&spill.site.kind);
-    told.put(" ");
-    told.put_numbers(&[spill.left, spill.right]);
+    told.put_ratio(&found.right);
 }
 
 fn tell_found<R: Threads + Sync>(rt: &R, told: &mut Told, cert: &Cert) {
     match checked(rt, told.alloc(), cert) {
         Some(Ok(Verdict::Accepted)) => told.put("accepted"),
-        Some(Ok(Verdict::Rejected(rejection))) => tell_rejection(told, rejection),
-        Some(Err(CheckStop::Overflow(spill))) => tell_spill(told, spill),
-        Some(Err(CheckStop::OutOfMemory)) => told.put("no memory"),
+        Some(Ok(Verdict::Rejected(rejection))) => tell_rejection(told, &rejection),
+        Some(Err(_)) => told.put("no memory"),
         None => told.put("too large"),
     }
 }

@@ -1,14 +1,9 @@
-mod Spilled
 pub mod Decided
-mod Settlements
 mod Wide
 mod Parts
-mod Chains
-mod Steps
 mod Agrees
 mod Compared
 mod Priced
-mod Counts
 mod Rays
 mod Extracts
 pub mod Worths

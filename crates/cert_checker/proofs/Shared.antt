@@ -12,13 +12,13 @@ use Rattle.cert_sums.specs.Ends.{IsHeldAt}
 use Rattle.cert_checker.specs.Tests.{Test, AreTrue, upto}
 use Rattle.cert_checker.specs.Conditions.{each, item_tests, balances, losses, joint_tests, joints}
 use Rattle.cert_checker.specs.Given.{AllGiven}
-use Rattle.cert_checker.specs.Settled.{Settles}
+use Rattle.cert_checker.specs.Verdicts.{Settles}
 use Rattle.cert_checker.specs.Views.{IsSmall, IsTabled}
 use Rattle.cert_checker.specs.declared.verdict.Halt.{Halt}
 use Rattle.cert_checker.specs.Runs.{sum_tests, all_sum_tests, IsSumGiven}
 use Rattle.cert_checker.specs.declared.quick.Quick.{Quick}
 use Rattle.cert_checker.proofs.Decided.{joined}
-use Rattle.cert_checker.proofs.Settlements.{front, behind}
+use Rattle.cert_checker.proofs.Decided.{front, behind}
 use Rattle.cert_checker.proofs.Extracts.{split, at}
 use Rattle.cert_checker.proofs.Wholes.{true_upto, balanced_segment, lost_segment, met_segment}
 
@@ -41,25 +41,25 @@ module _ {A : Type 0} (f g h : ℕ → A → List Test) where
 
 -- ---- a run of segments
 
-module _ (p : Problem Frac128) (own : List (Segment Frac128)) where
-  joint_of : (i : ℕ) (s : Segment Frac128) → slice_get own i ≡ Some s → IsHeldAt p own i → (o : Option (Segment Frac128)) → slice_get own (i + 1) ≡ o
+module _ (p : Problem Frac128) (own : List Segment) where
+  joint_of : (i : ℕ) (s : Segment) → slice_get own i ≡ Some s → IsHeldAt p own i → (o : Option Segment) → slice_get own (i + 1) ≡ o
       → AreTrue (option_map_or (joint_tests (sample value128 p) (i + 1) s) o [])
   joint_of i s here h None e = tt
   joint_of i s here h (Some next) e = met_segment p s next (h.joint s next here e) (i + 1)
 
-  held_item : (i : ℕ) (s : Segment Frac128) → slice_get own i ≡ Some s → IsHeldAt p own i → AreTrue (sum_tests p own (i + 1) s)
+  held_item : (i : ℕ) (s : Segment) → slice_get own i ≡ Some s → IsHeldAt p own i → AreTrue (sum_tests p own (i + 1) s)
   held_item i s here h =
       let k = h.held s here in
       joined (balances (sample value128 p) (i + 1) s) (losses (sample value128 p) (i + 1) s ++ joints (sample value128 p) own (i + 1) s) (balanced_segment p s k.low_balanced k.high_balanced (i + 1))
       (joined (losses (sample value128 p) (i + 1) s) (joints (sample value128 p) own (i + 1) s) (lost_segment p s k.low_loss k.high_loss (i + 1)) (joint_of i s here h (slice_get own (i + 1)) refl))
 
 -- the segments of a list, each of which is the one at its place of the list that was tested
-pub run_true : (q : Quick) (own list : List (Segment Frac128)) (first : ℕ) → AllGiven list (IsSumGiven q own)
+pub run_true : (q : Quick) (own list : List Segment) (first : ℕ) → AllGiven list (IsSumGiven q own)
     → ((j : ℕ) → j < first + 64 → j < length own → first ≤ j → IsHeldAt q.problem.now own j)
     → AreTrue (upto 64 (λ i. item_tests list (sum_tests q.problem.now own) (first + i)))
 run_true q own list first given held = true_upto 64 _ (λ i l. item i l (slice_get list (first + i)) refl)
   where
-    item : (i : ℕ) → i < 64 → (o : Option (Segment Frac128)) → slice_get list (first + i) ≡ o → AreTrue (option_map_or (sum_tests q.problem.now own (first + i + 1)) o [])
+    item : (i : ℕ) → i < 64 → (o : Option Segment) → slice_get list (first + i) ≡ o → AreTrue (option_map_or (sum_tests q.problem.now own (first + i + 1)) o [])
     item i l None e = tt
     item i l (Some s) e =
         let here = (given (first + i) s e).2 (first + i) refl in
@@ -67,7 +67,7 @@ run_true q own list first given held = true_upto 64 _ (λ i l. item i l (slice_g
 
 -- ---- conditions 6 to 8, one after the other
 
-module _ (p : Problem Frac128) (segments : List (Segment Frac128)) where
+module _ (p : Problem Frac128) (segments : List Segment) where
   abbrev balanced : List Test
   balanced = each segments (balances (sample value128 p))
 
@@ -96,7 +96,7 @@ module _ (p : Problem Frac128) (segments : List (Segment Frac128)) where
 
 -- ---- and of a segment
 
-module _ (p : Problem Frac128) (segments : List (Segment Frac128)) (j : ℕ) (s : Segment Frac128) where
+module _ (p : Problem Frac128) (segments : List Segment) (j : ℕ) (s : Segment) where
   pub of_balances : (halt : Halt) → Settles (balances (sample value128 p) j s) (Err halt) → Settles (sum_tests p segments j s) (Err halt)
   of_balances halt h = front (balances (sample value128 p) j s) (losses (sample value128 p) j s ++ joints (sample value128 p) segments j s) halt h
 

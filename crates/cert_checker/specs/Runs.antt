@@ -10,9 +10,9 @@ use Rattle.cert_checker.specs.Conditions.{each, balances, losses, joints}
 use Rattle.cert_checker.specs.Views.{IsSmall, IsTabled}
 use Rattle.cert_checker.specs.declared.quick.Quick.{Quick}
 
-module _ (p : Problem Frac128) (segments : List (Segment Frac128)) where
+module _ (p : Problem Frac128) (segments : List Segment) where
   -- those of a segment
-  abbrev pub sum_tests : ℕ → Segment Frac128 → List Test
+  abbrev pub sum_tests : ℕ → Segment → List Test
   sum_tests j s =
       balances (sample value128 p) j s ++ (losses (sample value128 p) j s ++ joints (sample value128 p) segments j s)
 
@@ -23,5 +23,5 @@ module _ (p : Problem Frac128) (segments : List (Segment Frac128)) where
       ++ (each segments (losses (sample value128 p)) ++ each segments (joints (sample value128 p) segments))
 
 -- what is known where they are decided: the segment is the one of its index, which counts from 1
-abbrev pub IsSumGiven : Quick → List (Segment Frac128) → ℕ → Segment Frac128 → Type 0
+abbrev pub IsSumGiven : Quick → List Segment → ℕ → Segment → Type 0
 IsSumGiven q segments j s = IsSmall q.problem.now × IsTabled q × ((k : ℕ) → j ≡ k + 1 → slice_get segments k ≡ Some s)

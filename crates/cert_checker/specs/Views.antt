@@ -18,12 +18,12 @@ use Rattle.cert_checker.specs.declared.quick.Quick.{Quick}
 use Rattle.cert_sums.specs.declared.table.Table.{Table}
 use Rattle.cert_sums.specs.Tables.{IsTable}
 
--- a problem is small enough for the operations of its tests to be numbered
+-- a problem is small enough for the tests of its rows and columns to be numbered
 abbrev pub IsSmall : Problem Frac128 → Type 0
 IsSmall p = (length p.rows ≤ 16384) × (p.columns ≤ 128)
 
 abbrev pub end_of : EndView → End
-end_of e = record { theta = rational (value128 e.theta); vertex = e.vertex.now; basic = e.basic.now }
+end_of e = record { theta = rational e.theta.now; vertex = e.vertex.now; basic = e.basic.now }
 
 -- what an interval asks of its problem
 abbrev pub question : IntervalView → Question
@@ -37,9 +37,9 @@ IsTableOf p (Some t) = IsTable p t
 abbrev pub IsTabled : Quick → Type 0
 IsTabled q = IsTableOf q.problem.now q.table.now
 
--- an interval's problem is small enough, and in whole numbers where there is a table
+-- an interval's problem is in whole numbers where there is a table
 abbrev pub IsAsked : IntervalView → Type 0
-IsAsked v = IsSmall v.problem.now × IsTableOf v.problem.now v.table.now
+IsAsked v = IsTableOf v.problem.now v.table.now
 
 module _ (a : Question) where
   -- the tests of a projection: what it leaves is orthogonal to the other columns, and isn't 0

@@ -1,33 +1,34 @@
 //! All conditions on a certificate.
 
-ghost use Rattle.std.specs.Prelude.{◌≤◌, ◌^◌, IfOk, IfErr, length};
+ghost use Rattle.std.specs.Prelude.{◌≤◌, ◌^◌, IfOk, length};
 ghost use Rattle.cert_text.specs.Limits.{IsWithinLimits};
-ghost use Rattle.cert_checker.specs.Certificates.{first_tests, later_tests, tests, IsVerdict, IsStop, IsUntrue};
-ghost use Rattle.cert_checker.specs.Settled.{Settles};
+ghost use Rattle.cert_checker.specs.Certificates.{first_tests, later_tests, tests, IsVerdict};
 ghost use Rattle.cert_checker.specs.Runs.{all_sum_tests};
+ghost use Rattle.cert_checker.specs.Verdicts.{Settles};
 ghost use Rattle.cert_checker.specs.Views.{IsSmall, IsTableOf, IsTabled};
 
-use crate::form::{RowForm, SegmentCount, SegmentForm};
-use crate::formula::{Count, Number};
+use crate::form::{RowForm, SegmentForm};
 use crate::interval_form::{IntervalForm, Intervals};
 use crate::intervals::IntervalConditions;
 use crate::jobs::{InTurn, SegmentJobs};
 use crate::place::Place;
-use crate::quick::{Balances, Joints, Losses, Quick, Together};
+use crate::quick::{Balances, Bounds, Costs, Joints, Losses, Quick, Together};
 use crate::relation::Relation;
-use crate::segments::{Bounds, CostRows, Ends, Rows, Segments};
-use crate::tests::{Comparison, One, Tests, Then};
-use crate::verdict::{CheckStop, Failure, Halt, Verdict};
+use crate::segments::{Ends, Rows, Segments};
+use crate::tests::{Numbers, One, Tests, Then, counts};
+use crate::verdict::{Halt, Verdict};
 use cert_sums::{Table, whole_table};
 use cert_text::Cert;
+use frac_core::OutOfMemory;
 use rq_fan::Gate;
 use std::alloc::Global;
 use std::thread::Threads;
 
 // The first three conditions.
 #[tactic(auto, unfolding(crate::specs::Certificates::first_tests))]
-fn decide_first(alloc: Global, cert: &Cert) -> Result<(), Halt>
-    requires { IsWithinLimits cert.now }
+fn decide_first(alloc: Global, cert: &Cert, table: &Option<Table>) -> Result<(), Halt>
+    requires limits { IsWithinLimits cert.now }
+    requires table { IsTableOf cert.now.problem table.now }
     ensures { Settles (first_tests cert.now) result }
 {
     let problem = &cert.problem;
@@ -37,19 +38,20 @@ fn decide_first(alloc: Global, cert: &Cert) -> Result<(), Halt>
             index: 0,
             inner: 0,
         },
-        parts: Comparison {
-            left: Number(cert.lo),
+        parts: Numbers {
+            left: cert.lo,
             relation: Relation::AtMost,
-            right: Number(cert.hi),
+            right: cert.hi,
         },
     };
-    let costs = Rows {
-        problem,
-        of: CostRows {
+    let costs = Costs {
+        quick: Quick {
+            alloc,
             problem,
-            lo: cert.lo,
-            hi: cert.hi,
+            table,
         },
+        lo: cert.lo,
+        hi: cert.hi,
     };
     let list = &cert.segments;
     let some = One {
@@ -58,11 +60,7 @@ fn decide_first(alloc: Global, cert: &Cert) -> Result<(), Halt>
             index: 0,
             inner: 0,
         },
-        parts: Comparison {
-            left: SegmentCount { list },
-            relation: Relation::AtLeast,
-            right: Count(1),
-        },
+        parts: counts(list.as_slice().len(), Relation::AtLeast, 1),
     };
     let ends = Ends {
         list,
@@ -123,7 +121,10 @@ fn decide_sums<R: Threads + Sync, G: Gate>(
     let list = jobs.list;
     match jobs.decide(rt, Together { quick, list }) {
         Ok(()) => Ok(()),
-        Err(_) => decide_apart(rt, jobs, quick),
+        Err(halt) => {
+            drop(halt);
+            decide_apart(rt, jobs, quick)
+        }
     }
 }
 
@@ -148,14 +149,8 @@ fn decide_quickly<R: Threads + Sync, G: Gate>(
         table,
     };
     let jobs = SegmentJobs { alloc, list, gate };
-    let low = Bounds {
-        problem,
-        high: false,
-    };
-    let high = Bounds {
-        problem,
-        high: true,
-    };
+    let low = Bounds { quick, high: false };
+    let high = Bounds { quick, high: true };
     jobs.decide(rt, InTurn(low))?;
     jobs.decide(rt, InTurn(high))?;
     decide_sums(rt, &jobs, quick)?;
@@ -166,22 +161,24 @@ fn decide_quickly<R: Threads + Sync, G: Gate>(
     intervals.decide(alloc)
 }
 
-// The same, over the problem in whole numbers where it is narrow enough for that.
-fn decide_later<R: Threads + Sync, G: Gate>(
+// All of them.
+fn decide_all<R: Threads + Sync, G: Gate>(
     rt: &R,
     alloc: Global,
     cert: &Cert,
     gate: &G,
+    table: &Option<Table>,
 ) -> Result<(), Halt>
-    requires { IsWithinLimits cert.now }
-    ensures { Settles (later_tests cert.now) result }
+    requires limits { IsWithinLimits cert.now }
+    requires table { IsTableOf cert.now.problem table.now }
+    ensures { Settles (tests cert.now) result }
 {
-    let table = whole_table(alloc, &cert.problem);
-    decide_quickly(rt, alloc, cert, gate, &table)
+    decide_first(alloc, cert, table)?;
+    decide_quickly(rt, alloc, cert, gate, table)
 }
 
-// All of them.
-fn decide_all<R: Threads + Sync, G: Gate>(
+// The same, over the problem in whole numbers where it is narrow enough for that.
+fn decide<R: Threads + Sync, G: Gate>(
     rt: &R,
     alloc: Global,
     cert: &Cert,
@@ -190,8 +187,8 @@ fn decide_all<R: Threads + Sync, G: Gate>(
     requires { IsWithinLimits cert.now }
     ensures { Settles (tests cert.now) result }
 {
-    decide_first(alloc, cert)?;
-    decide_later(rt, alloc, cert, gate)
+    let table = whole_table(alloc, &cert.problem);
+    decide_all(rt, alloc, cert, gate, &table)
 }
 
 /// Tests the nine conditions on a certificate that is within the limits of `read_cert`, in their order: that
@@ -205,32 +202,28 @@ fn decide_all<R: Threads + Sync, G: Gate>(
 /// answer counts in the order of the segments. A job enters the gate with its place among those of its condition
 /// before it works.
 ///
-/// Of a segment the tests of balances, losses and joints, and of an interval those of sums over all rows, are shown by sums
-/// of whole numbers first. Where one is false, or a number is too wide for these, the tests are made one by one, in
-/// fractions.
+/// What can be shown by whole numbers is: no negative cost, and of a segment bounds, balances, losses and joints, and of an
+/// interval bounds and sums over all rows. Where one is false, or a number is too wide for these, the tests are made one by one,
+/// in fractions of any size.
 ///
 /// `Accepted` says that all of them hold, and that so, whoever wrote the certificate, the segments cover the
 /// range, with dual values of equal cost at both ends of each, so that the coefficients of a segment
 /// minimise the loss at every quantile between (Koenker 2005, chapter 6), and that each interval shows
 /// which values of its coefficient the rank test keeps (section 3.5): its ends, none beyond, and between
 /// them all whose dual values are optimal. `Rejected` has the first test that is false, with its two sides.
-/// `Overflow` names an operation of a test that overflows, where all tests before it are true. `OutOfMemory` may come
-/// wherever jobs are made.
+/// There is no verdict only for want of memory: no number is too wide.
 pub fn check<R: Threads + Sync, G: Gate>(
     rt: &R,
     alloc: Global,
     cert: &Cert,
     gate: &G,
-) -> Result<Verdict, CheckStop>
+) -> Result<Verdict, OutOfMemory>
     requires { IsWithinLimits cert.now }
-    ensures verdict { IfOk result (IsVerdict cert.now) }
-    ensures stop { IfErr result (IsStop cert.now) }
-    ensures untrue { IfErr result (IsUntrue cert.now) }
+    ensures { IfOk result (IsVerdict cert.now) }
 {
-    match decide_all(rt, alloc, cert, gate) {
+    match decide(rt, alloc, cert, gate) {
         Ok(()) => Ok(Verdict::Accepted),
-        Err(Halt::Failed(Failure::Rejected(rejection))) => Ok(Verdict::Rejected(rejection)),
-        Err(Halt::Failed(Failure::Overflow(spill))) => Err(CheckStop::Overflow(spill)),
-        Err(Halt::OutOfMemory) => Err(CheckStop::OutOfMemory),
+        Err(Halt::Rejected(rejection)) => Ok(Verdict::Rejected(rejection)),
+        Err(Halt::OutOfMemory) => Err(OutOfMemory),
     }
 }

@@ -13,6 +13,7 @@ use crate::way::Way;
 use cert_sums::{WholeProblem, beyond_bound, lies_inside, projects};
 use frac_core::{Exact, Frac128, List};
 use loss_model::{End, Vertex};
+use ratio::Ratio;
 use std::alloc::Global;
 
 impl IntervalView<'_> {
@@ -35,7 +36,7 @@ impl IntervalView<'_> {
     }
 
     /// All tests inside an end.
-    pub(crate) fn lies_inside(self, alloc: Global, end: &End<Frac128>) -> bool
+    pub(crate) fn lies_inside(self, alloc: Global, end: &End) -> bool
         requires { IsTableOf self.problem.now self.table.now }
         ensures { IsTrue result → (m n : ℕ) → AreTrue (inside_tests (question self.entry) m n (values_of (question self.entry) end.now.vertex end.now.inside)) }
     {
@@ -55,12 +56,7 @@ impl IntervalView<'_> {
     }
 
     // The statistic of dual values outside of an end.
-    fn statistic(
-        self,
-        alloc: Global,
-        vertex: &Vertex<Frac128>,
-        outside: &List<Frac128>,
-    ) -> Option<Frac128>
+    fn statistic(self, alloc: Global, vertex: &Vertex, outside: &List<Ratio>) -> Option<Frac128>
         requires { IsTableOf self.problem.now self.table.now }
         ensures { IfSome result (IsBeyondBound (sample value128 self.entry.problem.now) self.entry.interval.now vertex.now outside.now) }
     {
@@ -84,8 +80,8 @@ impl IntervalView<'_> {
         self,
         alloc: Global,
         way: Way,
-        vertex: &Vertex<Frac128>,
-        outside: &List<Frac128>,
+        vertex: &Vertex,
+        outside: &List<Ratio>,
     ) -> bool
         requires { IsTableOf self.problem.now self.table.now }
         ensures { IsTrue result → (m : ℕ) → AreTrue (outside_tests (question self.entry) way m (values_of (question self.entry) vertex.now outside.now)) }

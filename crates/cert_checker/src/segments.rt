@@ -1,22 +1,21 @@
 //! The conditions on the segments of a certificate.
 
-ghost use Rattle.std.specs.Prelude.{◌≡◌, ◌≤◌, ◌<◌, ◌+◌, ◌^◌, ◌++◌, ℕ, List as list, [], length, slice_get, cond, eqb, if◌then◌else◌};
+ghost use Rattle.std.specs.Prelude.{◌≡◌, ◌≤◌, ◌<◌, ◌+◌, ◌^◌, ◌++◌, ℕ, List as list, [], length, slice_get, eqb, IfOk, if◌then◌else◌};
 ghost use Rattle.std.specs.Option.{option_map_or};
 ghost use Rattle.rational_laws.specs.Fraction.{rational};
-ghost use Rattle.frac_core.specs.declared.frac128.Frac128.{Frac128 as Fraction128};
 ghost use Rattle.frac_core.specs.Values.{value as value128};
 ghost use Rattle.loss_model.specs.declared.process.Segment.{Segment as Piece};
 ghost use Rattle.loss_model.specs.Problem.{sample};
 ghost use Rattle.cert_checker.specs.Formulas.{given};
 ghost use Rattle.cert_checker.specs.Tests.{Test, one, upto};
-ghost use Rattle.cert_checker.specs.Conditions.{each, zero_formula, low_of, high_of, side_in, dual_at_row, balance, bound_parts, bound_test, bounds, loss_tests, cost_tests, row_costs, lo_at, hi_at, first_end, order_of_ends, joint_end};
+ghost use Rattle.cert_checker.specs.Conditions.{each, zero_formula, side_in, dual_at_row, balance, bound_parts, bound_test, loss_tests, cost_tests, row_costs, lo_at, hi_at, first_end, order_of_ends, joint_end};
 ghost use Rattle.cert_checker.specs.Given.{AllGiven};
-ghost use Rattle.cert_checker.specs.Settled.{Settles};
-ghost use Rattle.cert_checker.specs.Views.{IsSmall, end_of};
+ghost use Rattle.cert_checker.specs.Verdicts.{Settles};
+ghost use Rattle.cert_checker.specs.Views.{end_of};
 ghost use Rattle.cert_checker.specs.declared.relation.Relation.TheVariants.{AtMost, Below, Equal};
 ghost use Rattle.loss_model.specs.declared.vertex.Side.TheVariants.{Basic};
 
-use crate::formula::{Composed, Count, Negation, Number};
+use crate::formula::{Count, Expression, Negation, Number, Stated};
 use crate::leaves::{
     BalanceTerms, DownCost, DualValue, EndView, LossTerms, ObjectiveTerms, PricedRow, RowSum,
     UpCost, rows,
@@ -26,8 +25,9 @@ use crate::relation::Relation;
 use crate::tests::{Both, Comparison, ComposedParts, One, Tests, TestsOf, Then, decide_each};
 use crate::verdict::Halt;
 use cert_sums::side;
-use frac_core::{Exact, Frac128, List};
+use frac_core::{Frac128, List, OutOfMemory};
 use loss_model::{Problem, Segment, Side};
+use ratio::Ratio;
 use std::alloc::Global;
 
 // ---- condition 2
@@ -36,13 +36,13 @@ use std::alloc::Global;
 #[derive(Clone, Copy)]
 pub(crate) struct CostsAt<'a> {
     pub(crate) problem: &'a Problem<Frac128>,
-    pub(crate) theta: Frac128,
+    pub(crate) theta: &'a Ratio,
     pub(crate) row: usize,
     pub(crate) inner: u32,
 }
 
 impl Tests for CostsAt<'_> {
-    ghost tests = { λ x. cost_tests (sample value128 x.problem.now) (rational (value128 x.theta)) x.row x.inner };
+    ghost tests = { λ x. cost_tests (sample value128 x.problem.now) (rational x.theta.now) x.row x.inner };
 
     ghost few = { λ x. (x.row < 16384) × (x.inner ≤ 3) };
 
@@ -85,12 +85,12 @@ impl Tests for CostsAt<'_> {
 #[derive(Clone, Copy)]
 pub(crate) struct CostRows<'a> {
     pub(crate) problem: &'a Problem<Frac128>,
-    pub(crate) lo: Frac128,
-    pub(crate) hi: Frac128,
+    pub(crate) lo: &'a Ratio,
+    pub(crate) hi: &'a Ratio,
 }
 
 impl TestsOf for CostRows<'_> {
-    ghost tests_of = { λ x i. row_costs (sample value128 x.problem.now) (rational (value128 x.lo)) (rational (value128 x.hi)) i };
+    ghost tests_of = { λ x i. row_costs (sample value128 x.problem.now) (rational x.lo.now) (rational x.hi.now) i };
 
     ghost given_of = { λ x i. i < 16384 };
 
@@ -201,7 +201,7 @@ pub(crate) struct BalanceColumns<'a> {
 impl TestsOf for BalanceColumns<'_> {
     ghost tests_of = { λ x k. one 6 x.index (x.before + k + 1) (balance (sample value128 x.end.problem.now) (end_of x.end) k) Equal zero_formula };
 
-    ghost given_of = { λ x k. (k < 128) × (x.before ≤ 128) × (length x.end.problem.now.rows ≤ 16384) };
+    ghost given_of = { λ x k. (k < 128) × (x.before ≤ 128) };
 
     fn decide_of(self, alloc: Global, i: usize) -> Result<(), Halt> {
         One {
@@ -234,14 +234,14 @@ pub(crate) struct LossAt<'a> {
     pub(crate) index: u32,
     pub(crate) inner: u32,
     pub(crate) end: EndView<'a>,
-    pub(crate) stated: Frac128,
+    pub(crate) stated: &'a Ratio,
 }
 
 // The loss is that of the coefficients, and the sum of response times dual value.
 impl Tests for LossAt<'_> {
-    ghost tests = { λ x. loss_tests (sample value128 x.end.problem.now) x.index (end_of x.end) x.stated x.inner };
+    ghost tests = { λ x. loss_tests (sample value128 x.end.problem.now) x.index (end_of x.end) x.stated.now x.inner };
 
-    ghost few = { λ x. IsSmall x.end.problem.now × (x.inner ≤ 3) };
+    ghost few = { λ x. x.inner ≤ 3 };
 
     fn decide(self, alloc: Global) -> Result<(), Halt> {
         let problem = self.end.problem;
@@ -252,7 +252,7 @@ impl Tests for LossAt<'_> {
                 inner: self.inner,
             },
             parts: Comparison {
-                left: Number(self.stated),
+                left: Stated(self.stated),
                 relation: Relation::Equal,
                 right: RowSum {
                     problem,
@@ -271,7 +271,7 @@ impl Tests for LossAt<'_> {
                 inner: self.inner + 1,
             },
             parts: Comparison {
-                left: Number(self.stated),
+                left: Stated(self.stated),
                 relation: Relation::Equal,
                 right: RowSum {
                     problem,
@@ -326,18 +326,13 @@ impl TestsOf for JointRows<'_> {
 /// Tests of a segment, whose index counts from 1.
 pub(crate) trait SegmentTests: Copy {
     /// The tests.
-    ghost segment_tests: { Self → ℕ → Piece Fraction128 → list Test };
+    ghost segment_tests: { Self → ℕ → Piece → list Test };
 
     /// What is known of the problem and of a segment, with its index.
-    ghost segment_given: { Self → ℕ → Piece Fraction128 → Type 0 };
+    ghost segment_given: { Self → ℕ → Piece → Type 0 };
 
     /// Nothing where all are true.
-    fn decide_segment(
-        self,
-        alloc: Global,
-        index: u32,
-        segment: &Segment<Frac128>,
-    ) -> Result<(), Halt>
+    fn decide_segment(self, alloc: Global, index: u32, segment: &Segment) -> Result<(), Halt>
         requires { segment_given self index segment.now }
         ensures { Settles (segment_tests self index segment.now) result };
 }
@@ -345,7 +340,7 @@ pub(crate) trait SegmentTests: Copy {
 /// The tests of all segments, one after the other.
 #[derive(Clone, Copy)]
 pub(crate) struct Segments<'a, T> {
-    pub(crate) list: &'a List<Segment<Frac128>>,
+    pub(crate) list: &'a List<Segment>,
     pub(crate) of: T,
 }
 
@@ -408,119 +403,64 @@ impl<T: TestsOf> Tests for Columns<'_, T> {
     }
 }
 
-/// Conditions 4 and 5: at the low ends, or at the high ends.
-#[derive(Clone, Copy)]
-pub(crate) struct Bounds<'a> {
-    pub(crate) problem: &'a Problem<Frac128>,
-    pub(crate) high: bool,
-}
-
-impl SegmentTests for Bounds<'_> {
-    ghost segment_tests = { λ x j s. cond x.high (bounds 5 (sample value128 x.problem.now) j (high_of s)) (bounds 4 (sample value128 x.problem.now) j (low_of s)) };
-
-    ghost segment_given = { λ x j s. length x.problem.now.rows ≤ 16384 };
-
-    fn decide_segment(
-        self,
-        alloc: Global,
-        index: u32,
-        segment: &Segment<Frac128>,
-    ) -> Result<(), Halt> {
-        if self.high {
-            let end = EndView {
-                problem: self.problem,
-                theta: segment.hi,
-                vertex: &segment.vertex,
-                basic: &segment.basic_hi,
-            };
-            return Rows {
-                problem: self.problem,
-                of: BoundRows {
-                    condition: 5,
-                    index,
-                    end,
-                },
-            }
-            .decide(alloc);
-        }
-        let end = EndView {
-            problem: self.problem,
-            theta: segment.lo,
-            vertex: &segment.vertex,
-            basic: &segment.basic_lo,
-        };
-        Rows {
-            problem: self.problem,
-            of: BoundRows {
-                condition: 4,
-                index,
-                end,
-            },
-        }
-        .decide(alloc)
-    }
-}
-
 // ---- condition 3
 
 // Where a segment of a list begins, and 0 beyond the last.
-fn low_at(list: &List<Segment<Frac128>>, place: usize) -> Frac128
-    ensures { rational (value128 result) ≡ lo_at list.now place }
+fn low_at(alloc: Global, list: &[Segment], place: usize) -> Result<Ratio, OutOfMemory>
+    ensures { IfOk result (λ r. rational r ≡ lo_at list.now place) }
 {
-    match list.as_slice().get(place) {
-        Some(segment) => segment.lo,
-        None => Frac128::zero(),
+    match list.get(place) {
+        Some(segment) => segment.lo.copy(alloc),
+        None => Ratio::zero(alloc),
     }
 }
 
 // Where it ends.
-fn high_at(list: &List<Segment<Frac128>>, place: usize) -> Frac128
-    ensures { rational (value128 result) ≡ hi_at list.now place }
+fn high_at(alloc: Global, list: &[Segment], place: usize) -> Result<Ratio, OutOfMemory>
+    ensures { IfOk result (λ r. rational r ≡ hi_at list.now place) }
 {
-    match list.as_slice().get(place) {
-        Some(segment) => segment.hi,
-        None => Frac128::zero(),
+    match list.get(place) {
+        Some(segment) => segment.hi.copy(alloc),
+        None => Ratio::zero(alloc),
     }
 }
 
 /// Where a segment of a list begins.
 #[derive(Clone, Copy)]
 pub(crate) struct LowEnd<'a> {
-    pub(crate) list: &'a List<Segment<Frac128>>,
+    pub(crate) list: &'a List<Segment>,
     pub(crate) place: usize,
 }
 
-impl Composed for LowEnd<'_> {
-    type Whole = Number;
+impl Expression for LowEnd<'_> {
+    ghost formula = { λ x. given (lo_at x.list.now x.place) };
 
-    ghost composed = { λ x. given (lo_at x.list.now x.place) };
-
-    fn whole(self) -> Number {
-        Number(low_at(self.list, self.place))
+    fn value(self, alloc: Global) -> Result<Ratio, OutOfMemory> {
+        let low = low_at(alloc, self.list.as_slice(), self.place)?;
+        Ok(low)
     }
 }
 
 /// Where it ends.
 #[derive(Clone, Copy)]
 pub(crate) struct HighEnd<'a> {
-    pub(crate) list: &'a List<Segment<Frac128>>,
+    pub(crate) list: &'a List<Segment>,
     pub(crate) place: usize,
 }
 
-impl Composed for HighEnd<'_> {
-    type Whole = Number;
+impl Expression for HighEnd<'_> {
+    ghost formula = { λ x. given (hi_at x.list.now x.place) };
 
-    ghost composed = { λ x. given (hi_at x.list.now x.place) };
-
-    fn whole(self) -> Number {
-        Number(high_at(self.list, self.place))
+    fn value(self, alloc: Global) -> Result<Ratio, OutOfMemory> {
+        let high = high_at(alloc, self.list.as_slice(), self.place)?;
+        Ok(high)
     }
 }
 
 /// The ends of the segments of a range.
 #[derive(Clone, Copy)]
 pub(crate) struct Ends<'a> {
-    pub(crate) list: &'a List<Segment<Frac128>>,
+    pub(crate) list: &'a List<Segment>,
     pub(crate) lo: Frac128,
     pub(crate) hi: Frac128,
 }

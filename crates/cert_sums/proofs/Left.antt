@@ -2,7 +2,7 @@
 use Rattle.std.specs.Prelude.{◌≡◌, ℕ, ◌+◌, ◌<◌, ◌≤◌, ◌*◌, ◌*ℤ◌, [], ◌∷◌, List, ℤ, length, slice_get, Option, Some, pos}
 use Rattle.std.specs.Option.{option_map_or}
 use Rattle.std.proofs.Common.{arith, refl, sym, ap, ap₂, ◌∙◌}
-use Rattle.rational_laws.specs.Fraction.{rational}
+use Rattle.rational_laws.specs.Fraction.{Fraction, rational}
 use Rattle.rational_laws.specs.Solver.{number, ◌⊞◌, ◌⊟◌, ◌⊠◌, v0, v1, v2, v3, v4}
 use Rattle.rational_laws.specs.Rational.{◌+ℚ◌, ◌-ℚ◌, ◌*ℚ◌, whole}
 use Rattle.rational_laws.specs.RationalSums.{sum_ℚ}
@@ -15,7 +15,7 @@ use Rattle.rational_laws.proofs.TermLaws.{sum_ℚ-delta}
 use Rattle.frac_core.specs.declared.frac128.Frac128.{Frac128}
 use Rattle.frac_core.specs.Values.{value as value128}
 use Rattle.loss_model.specs.declared.problem.Problem.{Problem}
-use Rattle.loss_model.specs.Problem.{value_at, sample}
+use Rattle.loss_model.specs.Problem.{number_at, sample, value_at}
 use Rattle.loss_model.specs.Sample.{fitted}
 use Rattle.rank_model.specs.Restricted.{projected}
 use Rattle.rank_model.proofs.Lengths.{sum_ℚ-minus}
@@ -30,19 +30,19 @@ use Rattle.cert_sums.specs.Ranks.{left_at}
 use Rattle.cert_sums.proofs.RowsOf.{row_of, number_of}
 use Rattle.cert_sums.proofs.Follow.{whole-total}
 
-module _ (p : Problem Frac128) (t : Table) (h : IsTable p t) (factors : List Frac128) (j : ℕ) (same : length factors ≡ p.columns) (within : j < length factors) (scale : ℕ) (numbers : List ℤ)
+module _ (p : Problem Frac128) (t : Table) (h : IsTable p t) (factors : List Fraction) (j : ℕ) (same : length factors ≡ p.columns) (within : j < length factors) (scale : ℕ) (numbers : List ℤ)
     (size : length numbers ≡ length factors + 1)
-    (each : (k : ℕ) → k < length factors → whole_at numbers k ≡ whole (pos scale) *ℚ (delta k j -ℚ value_at value128 factors k))
+    (each : (k : ℕ) → k < length factors → whole_at numbers k ≡ whole (pos scale) *ℚ (delta k j -ℚ number_at factors k))
     (last : whole_at numbers (length factors) ≡ whole (pos 0)) where
   -- a row's cells times the numbers are what is left times both scales; and its weight times the scale of the costs
   row_left : (i : ℕ) → i < length p.rows → (w : WholeRow) × (slice_get t.rows i ≡ Some w)
-      × (whole (total w.cells numbers) ≡ (whole (pos t.scale) *ℚ whole (pos scale)) *ℚ ((sample value128 p).x i j -ℚ fitted (sample value128 p) (value_at value128 factors) i))
+      × (whole (total w.cells numbers) ≡ (whole (pos t.scale) *ℚ whole (pos scale)) *ℚ ((sample value128 p).x i j -ℚ fitted (sample value128 p) (number_at factors) i))
       × (whole w.up.slope ≡ whole (pos t.cost_scale) *ℚ (sample value128 p).up1 i)
   row_left i l =
       let many = h.size in
       let w = item_there t.rows i (omega (arith, l, many)) in
       let r = row_of p t h i w.0 w.1 in
-      let c = value_at value128 factors in
+      let c = number_at factors in
       let s = sample value128 p in
       let S = whole (pos t.scale) in
       let D = whole (pos scale) in
@@ -68,7 +68,7 @@ module _ (p : Problem Frac128) (t : Table) (h : IsTable p t) (factors : List Fra
       )
 
   left_is : (i : ℕ) → i < length p.rows → left_at t.rows numbers i
-      ≡ (whole (pos (scale * t.scale * t.cost_scale)) *ℚ whole (pos t.cost_scale)) *ℚ ((sample value128 p).up1 i *ℚ projected (sample value128 p) j (value_at value128 factors) i)
+      ≡ (whole (pos (scale * t.scale * t.cost_scale)) *ℚ whole (pos t.cost_scale)) *ℚ ((sample value128 p).up1 i *ℚ projected (sample value128 p) j (number_at factors) i)
   left_is i l =
       let w = row_left i l in
       let s = sample value128 p in
@@ -76,7 +76,7 @@ module _ (p : Problem Frac128) (t : Table) (h : IsTable p t) (factors : List Fra
       let D = whole (pos scale) in
       let C = whole (pos t.cost_scale) in
       let u = s.up1 i in
-      let L = s.x i j -ℚ fitted s (value_at value128 factors) i in
+      let L = s.x i j -ℚ fitted s (number_at factors) i in
       let sum = total w.0.cells numbers in
       let slope = w.0.up.slope in
       let joint : whole (pos (scale * t.scale * t.cost_scale)) ≡ (D *ℚ S) *ℚ C
@@ -88,7 +88,7 @@ module _ (p : Problem Frac128) (t : Table) (h : IsTable p t) (factors : List Fra
       ∙ ap (λ z. (z *ℚ C) *ℚ (u *ℚ (u *ℚ L))) (sym joint)
 
   pub left_duals : (d : Duals) → 1 ≤ scale → d.scale ≡ scale * t.scale * t.cost_scale → length d.values ≡ length t.rows → ((i : ℕ) → i < length t.rows → whole_at d.values i ≡ left_at t.rows numbers i)
-      → IsDuals p t (λ i. (sample value128 p).up1 i *ℚ projected (sample value128 p) j (value_at value128 factors) i) d
+      → IsDuals p t (λ i. (sample value128 p).up1 i *ℚ projected (sample value128 p) j (number_at factors) i) d
   left_duals d some product sized values =
       let many = h.size in
       let positive = some_product (scale * t.scale) t.cost_scale (some_product scale t.scale some h.scale) h.cost_scale in
@@ -96,5 +96,5 @@ module _ (p : Problem Frac128) (t : Table) (h : IsTable p t) (factors : List Fra
         scale = omega (arith, positive, product);
         size = sized ∙ many;
         each = λ i l. values i (omega (arith, l, many)) ∙ left_is i l
-            ∙ ap (λ n. (whole (pos n) *ℚ whole (pos t.cost_scale)) *ℚ ((sample value128 p).up1 i *ℚ projected (sample value128 p) j (value_at value128 factors) i)) (sym product);
+            ∙ ap (λ n. (whole (pos n) *ℚ whole (pos t.cost_scale)) *ℚ ((sample value128 p).up1 i *ℚ projected (sample value128 p) j (number_at factors) i)) (sym product);
       }

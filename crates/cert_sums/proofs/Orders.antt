@@ -1,9 +1,11 @@
 -- What comparisons of fractions show.
-use Rattle.std.specs.Prelude.{◌≡◌, ◌≢◌, ℤ, ◌<ℤ◌, [], ◌∷◌, IsTrue, pos}
+use Rattle.std.specs.Prelude.{◌≡◌, ◌≢◌, ℤ, ◌<ℤ◌, ◌≤ℤ◌, [], ◌∷◌, IsTrue, pos}
 use Rattle.std.specs.declared.cmp.Ordering.{Ordering}
 use Rattle.std.specs.declared.cmp.Ordering.TheVariants.{Less, Equal, Greater}
-use Rattle.std.specs.Ordering.{is_le, is_gt}
-use Rattle.std.proofs.Common.{refl, sym, ap, subst, ◌∙◌}
+use Rattle.std.specs.Ordering.{MatchOrdering, int_cmp, is_eq, is_le, is_gt}
+use Rattle.std.proofs.Common.{arith, refl, sym, ap, subst, ◌∙◌}
+use Rattle.std.proofs.lemmas.Cmp.{int_ranked}
+use Rattle.std.proofs.lemmas.Int.{ints}
 use Rattle.rational_laws.specs.Solver.{number, ◌⊠◌, v0, v1, v2}
 use Rattle.rational_laws.specs.Rational.{ℚ, ◌*ℚ◌, whole, inverse, ◌≤ℚ◌}
 use Rattle.rational_laws.specs.Order.{cmp_ℚ, sign_ℚ}
@@ -17,6 +19,23 @@ is_greater : (o : Ordering) → IsTrue (is_gt o) → o ≡ Greater
 is_greater Less h = absurd (cc h)
 is_greater Equal h = absurd (cc h)
 is_greater Greater h = refl
+
+-- two whole numbers that are equal, or the first of which isn't greater
+equal_of : (x y : ℤ) (o : Ordering) → MatchOrdering o (x <ℤ y) (x ≡ y) (y <ℤ x) → IsTrue (is_eq o) → x ≡ y
+equal_of x y Less m h = absurd (cc h)
+equal_of x y Equal m h = m
+equal_of x y Greater m h = absurd (cc h)
+
+pub equal_whole : (x y : ℤ) (o : Ordering) → o ≡ int_cmp x y → IsTrue (is_eq o) → x ≡ y
+equal_whole x y o e h = equal_of x y o (int_ranked x y o e) h
+
+most_of : (x y : ℤ) (o : Ordering) → MatchOrdering o (x <ℤ y) (x ≡ y) (y <ℤ x) → IsTrue (is_le o) → x ≤ℤ y
+most_of x y Less m h = omega (arith, ints, m)
+most_of x y Equal m h = omega (arith, ints, m)
+most_of x y Greater m h = absurd (cc h)
+
+pub most_whole : (x y : ℤ) (o : Ordering) → o ≡ int_cmp x y → IsTrue (is_le o) → x ≤ℤ y
+most_whole x y o e h = most_of x y o (int_ranked x y o e) h
 
 pub most_from : (x y : ℚ) (o : Ordering) → o ≡ cmp_ℚ x y → IsTrue (is_le o) → x ≤ℚ y
 most_from x y o e h = (cmp_ℚ-not_Greater x y).0 (λ g. not_greater o (e ∙ g) h)

@@ -2,7 +2,7 @@
 use Rattle.std.specs.Prelude.{◌≡◌, ℕ, ◌+◌, ◌<◌, ℤ, pos, ◌*ℤ◌, List, [], ◌∷◌, length, get_or, slice_get, Option, Some, true, All}
 use Rattle.std.specs.Option.{option_map_or}
 use Rattle.std.proofs.Common.{arith, refl, sym, ap, ap₂, ◌∙◌}
-use Rattle.rational_laws.specs.Fraction.{rational}
+use Rattle.rational_laws.specs.Fraction.{Fraction, rational}
 use Rattle.rational_laws.specs.Solver.{number, ◌⊞◌, ◌⊠◌, v0, v1, v2, v3, v4, v5}
 use Rattle.rational_laws.specs.Rational.{ℚ, ◌+ℚ◌, ◌*ℚ◌, neg_ℚ, whole}
 use Rattle.rational_laws.specs.RationalSums.{sum_ℚ}
@@ -30,7 +30,7 @@ use Rattle.cert_sums.specs.declared.reach.Reach.{Reach}
 use Rattle.cert_sums.specs.Tables.{IsTable}
 use Rattle.cert_sums.specs.Duals.{at_line, side_in, dual_of}
 use Rattle.cert_sums.specs.Sums.{cell_at}
-use Rattle.cert_sums.specs.Slopes.{part_of, line_on, part_at, is_settled, unsettled_rows, basic_part, basic_at, over_scales, listed_total, sum_at, IsTally, IsReach, IsSummed}
+use Rattle.cert_sums.specs.Slopes.{part_of, line_on, part_at, is_settled, unsettled_rows, basic_part, basic_at, over_scales, listed_total, sum_at, IsTally, IsScaled, IsSummed}
 use Rattle.cert_sums.specs.Ends.{low_dual, high_dual, DoMeet}
 use Rattle.cert_sums.proofs.RowsOf.{row_value}
 use Rattle.cert_sums.proofs.Balanced.{balanced_from, objective_from}
@@ -41,7 +41,7 @@ line_split l scale at =
     whole-add (l.start *ℤ pos scale) (l.slope *ℤ at) ∙ ap₂ ◌+ℚ◌ (whole-mul l.start (pos scale)) (whole-mul l.slope at)
     ∙ ring_ℚ (whole l.start ∷ whole (pos scale) ∷ whole l.slope ∷ whole at ∷ []) (v0 ⊠ v1 ⊞ v2 ⊠ v3) ((v1 ⊠ v0 ⊞ v3 ⊠ v2) ⊞ number (pos 0)) refl
 
-module _ (p : Problem Frac128) (t : Table) (h : IsTable p t) (theta : ℚ) (v : Vertex Frac128) (basic : List Frac128) (r : Reach) (k : IsReach t.cost_limit theta r) where
+module _ (p : Problem Frac128) (t : Table) (h : IsTable p t) (theta : ℚ) (v : Vertex) (basic : List Fraction) (r : Reach) (k : IsScaled theta r) where
   abbrev V : ℚ
   V = whole (pos r.scale)
 
@@ -52,7 +52,7 @@ module _ (p : Problem Frac128) (t : Table) (h : IsTable p t) (theta : ℚ) (v : 
   F = whole (pos r.scale) *ℚ whole (pos t.cost_scale)
 
   abbrev b : ℕ → ℚ
-  b = basic_value value128 v basic
+  b = basic_value v basic
 
   abbrev e : ℕ → ℚ
   e = dual_of (sample value128 p) theta v basic
@@ -117,9 +117,9 @@ settled_value p theta eta b c i e Down Basic h = absurd (cc h)
 settled_value p theta eta b c i e Basic new h = absurd (cc h)
 
 -- two segments meet where they have one quantile, and each unsettled row has one dual value
-pub met : (p : Problem Frac128) (s next : Segment Frac128) → rational (value128 s.hi) ≡ rational (value128 next.lo)
+pub met : (p : Problem Frac128) (s next : Segment) → rational s.hi ≡ rational next.lo
     → All (λ i. high_dual p s i ≡ low_dual p next i) (unsettled_rows s.vertex.sides next.vertex.sides (length p.rows)) → DoMeet p s next
 met p s next e all =
     unsettled_all s.vertex.sides next.vertex.sides (λ i. high_dual p s i ≡ low_dual p next i) (length p.rows) all
-    (λ i l h. settled_value (sample value128 p) (rational (value128 s.hi)) (rational (value128 next.lo))
-    (basic_value value128 s.vertex s.basic_hi) (basic_value value128 next.vertex next.basic_lo) i e (side_in s.vertex i) (side_in next.vertex i) h)
+    (λ i l h. settled_value (sample value128 p) (rational s.hi) (rational next.lo)
+    (basic_value s.vertex s.basic_hi) (basic_value next.vertex next.basic_lo) i e (side_in s.vertex i) (side_in next.vertex i) h)

@@ -2,7 +2,7 @@
 use Rattle.std.specs.Prelude.{◌≡◌, ℕ, zero, suc, ℤ, ◌<◌, ◌+◌, ◌*◌, ◌≤◌, ◌^◌, List, [], ◌∷◌, ◌++◌, length, get_or, slice_get}
 use Rattle.std.specs.Prelude.{pos, unsigned_abs, Bool, true, false, cond}
 use Rattle.std.specs.Option.{option_map_or}
-use Rattle.rational_laws.specs.Fraction.{rational}
+use Rattle.rational_laws.specs.Fraction.{Fraction, rational}
 use Rattle.rational_laws.specs.Rational.{ℚ, ◌+ℚ◌, ◌-ℚ◌, ◌*ℚ◌, whole, inverse}
 use Rattle.rational_laws.specs.RationalSums.{sum_ℚ}
 use Rattle.frac_core.specs.declared.frac128.Frac128.{Frac128}
@@ -87,12 +87,12 @@ basic_part Down b = whole (pos 0)
 basic_part Basic b = b
 
 -- the basic value of a row at an end, times both scales, or 0 for a row outside the basis
-abbrev pub basic_at : ℕ → ℕ → Vertex Frac128 → List Frac128 → ℕ → ℚ
-basic_at scale cost v basic i = basic_part (side_in v i) ((whole (pos scale) *ℚ whole (pos cost)) *ℚ basic_value value128 v basic i)
+abbrev pub basic_at : ℕ → ℕ → Vertex → List Fraction → ℕ → ℚ
+basic_at scale cost v basic i = basic_part (side_in v i) ((whole (pos scale) *ℚ whole (pos cost)) *ℚ basic_value v basic i)
 
 -- the dual value of row i at an end
-abbrev pub end_dual : Problem Frac128 → Frac128 → Vertex Frac128 → List Frac128 → ℕ → ℚ
-end_dual p theta v basic i = dual_of (sample value128 p) (rational (value128 theta)) v basic i
+abbrev pub end_dual : Problem Frac128 → Fraction → Vertex → List Fraction → ℕ → ℚ
+end_dual p theta v basic i = dual_of (sample value128 p) (rational theta) v basic i
 
 -- a sum of responses over what these and the dual values are multiplied by
 abbrev pub over_scales : Table → ℕ → ℚ → ℚ
@@ -112,7 +112,12 @@ pub record IsSummed (p : Problem Frac128) (e : ℕ → ℚ) (stated : ℚ) : Typ
   pub balanced : IsBalanced (sample value128 p) e
   pub objective : stated ≡ dual_objective (sample value128 p) e
 
--- a quantile times the scale, where numbers up to a limit have room
+-- a quantile times the scale
+pub record IsScaled (theta : ℚ) (r : Reach) : Type 0 where
+  pub some : 1 ≤ r.scale
+  pub at_theta : whole r.at ≡ whole (pos r.scale) *ℚ theta
+
+-- the same, where numbers up to a limit have room
 pub record IsReach (limit : ℕ) (theta : ℚ) (r : Reach) : Type 0 where
   pub some : 1 ≤ r.scale
   pub small : r.scale < 2 ^ 127
@@ -120,6 +125,6 @@ pub record IsReach (limit : ℕ) (theta : ℚ) (r : Reach) : Type 0 where
   pub at_theta : whole r.at ≡ whole (pos r.scale) *ℚ theta
 
 -- a segment that begins as it should, and its tally
-pub record IsCounted (p : Problem Frac128) (t : Table) (counts : Tally) (s : Segment Frac128) : Type 0 where
+pub record IsCounted (p : Problem Frac128) (t : Table) (counts : Tally) (s : Segment) : Type 0 where
   pub begun : IsBegun p s
   pub tally : IsTally t.rows (p.columns + 1) s.vertex.sides counts

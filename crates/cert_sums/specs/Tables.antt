@@ -1,5 +1,5 @@
 -- Inner. A problem in whole numbers.
-use Rattle.std.specs.Prelude.{◌≡◌, ℕ, ◌<◌, ◌≤◌, ◌+◌, length, All, pos, unsigned_abs}
+use Rattle.std.specs.Prelude.{◌≡◌, ℕ, ◌<◌, ◌≤◌, ◌+◌, List, length, All, IsTrue, pos, unsigned_abs}
 use Rattle.rational_laws.specs.Fraction.{rational}
 use Rattle.rational_laws.specs.Rational.{ℚ, ◌*ℚ◌, neg_ℚ, whole}
 use Rattle.frac_core.specs.declared.frac128.Frac128.{Frac128}
@@ -31,9 +31,13 @@ pub record IsRowOf (scale cost : ℕ) (columns : ℕ) (r : Row Frac128) (w : Who
   pub up : IsLine cost (rational (value128 r.up0)) (rational (value128 r.up1)) w.up
   pub low : IsLine cost (neg_ℚ (rational (value128 r.down0))) (neg_ℚ (rational (value128 r.down1))) w.low
 
--- its cells and its costs are within their limits
+-- rows have their cells in 64 bits too
+abbrev pub AreNarrow : List WholeRow → Type 0
+AreNarrow rows = All (λ w. w.narrow ≡ w.cells) rows
+
+-- its cells in 64 bits and its costs are within their limits
 pub record IsSmallRow (limit cost_limit : ℕ) (w : WholeRow) : Type 0 where
-  pub cells : All (λ e. unsigned_abs e ≤ limit) w.cells
+  pub cells : All (λ e. unsigned_abs e ≤ limit) w.narrow
   pub up : IsSmallLine cost_limit w.up
   pub low : IsSmallLine cost_limit w.low
 
@@ -43,5 +47,6 @@ pub record IsTable (p : Problem Frac128) (t : Table) : Type 0 where
   pub size : length t.rows ≡ length p.rows
   pub paired : ArePaired (IsRowOf t.scale t.cost_scale p.columns) p.rows t.rows
   pub small : All (IsSmallRow t.limit t.cost_limit) t.rows
+  pub narrow : IsTrue t.is_narrow → AreNarrow t.rows
   pub scale : 1 ≤ t.scale
   pub cost_scale : 1 ≤ t.cost_scale

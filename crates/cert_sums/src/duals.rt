@@ -9,20 +9,22 @@ ghost use Rattle.loss_model.specs.Vertex.{basic_value};
 ghost use Rattle.cert_sums.specs.Tables.{IsSmallRow, IsTable};
 ghost use Rattle.cert_sums.specs.Duals.{at_line, side_in, dual_of, IsRowDual, IsDuals};
 
-use crate::scale::{common_scale, product, scaled};
+use crate::reach::reach_of;
+use crate::scale::product;
 use crate::table::{Line, Table, WholeRow};
-use crate::vertices::{basic_number, side};
+use crate::vertices::{basic_scaled, side};
 use frac_core::{Frac128, List};
 use loss_model::{Problem, Side, Vertex};
+use ratio::Ratio;
 use std::alloc::Global;
 use wide_int::grown;
 
 /// A quantile, a vertex, and the dual values of the basic rows there.
 #[derive(Clone, Copy)]
 pub(crate) struct End<'a> {
-    pub(crate) theta: Frac128,
-    pub(crate) vertex: &'a Vertex<Frac128>,
-    pub(crate) basic: &'a List<Frac128>,
+    pub(crate) theta: &'a Ratio,
+    pub(crate) vertex: &'a Vertex,
+    pub(crate) basic: &'a List<Ratio>,
 }
 
 /// What dual values are multiplied by beside the scale of the costs, and their products.
@@ -49,9 +51,9 @@ pub(crate) fn has_reach(limit: u64, scale: u128, at: i128) -> bool
     }
 }
 
-// What a line comes to there, times the scale.
+/// What a line comes to there, times the scale.
 #[inline]
-fn line_at(line: Line, scale: u128, at: i128) -> i128
+pub(crate) fn line_at(line: Line, scale: u128, at: i128) -> i128
     requires scale { scale < 2 ^ 127 }
     requires room { unsigned_abs line.start * scale + unsigned_abs line.slope * unsigned_abs at < 2 ^ 127 }
     ensures { result ≡ at_line line scale at }
@@ -59,11 +61,11 @@ fn line_at(line: Line, scale: u128, at: i128) -> i128
     grown(grown(0, line.start, scale as i128), line.slope, at)
 }
 
-/// A fraction times both scales.
-pub(crate) fn basic_dual(v: Frac128, scale: u128, cost_scale: u128) -> Option<i128>
-    ensures { IfSome result (λ e. whole e ≡ (whole (pos scale) *ℚ whole (pos cost_scale)) *ℚ rational (value128 v)) }
+/// The dual value of a basic row, times both scales.
+pub(crate) fn basic_dual(end: End<'_>, row: usize, scale: u128, cost_scale: u128) -> Option<i128>
+    ensures { IfSome result (λ e. whole e ≡ (whole (pos scale) *ℚ whole (pos cost_scale)) *ℚ basic_value end.entry.vertex.now end.entry.basic.now row) }
 {
-    let number = scaled(v, scale)?;
+    let number = basic_scaled(end.vertex, end.basic, row, scale)?;
     let made = product(number, cost_scale)?;
     Some(made)
 }
@@ -81,18 +83,12 @@ pub(crate) fn row_dual(
     requires scale { scale < 2 ^ 127 }
     requires room { table.now.cost_limit * (scale + unsigned_abs at) < 2 ^ 127 }
     requires small { IsSmallRow table.now.limit table.now.cost_limit row.now }
-    ensures { IfSome result (IsRowDual (side_in end.entry.vertex.now i) row.now scale at ((whole (pos scale) *ℚ whole (pos table.now.cost_scale)) *ℚ basic_value value128 end.entry.vertex.now end.entry.basic.now i)) }
+    ensures { IfSome result (IsRowDual (side_in end.entry.vertex.now i) row.now scale at ((whole (pos scale) *ℚ whole (pos table.now.cost_scale)) *ℚ basic_value end.entry.vertex.now end.entry.basic.now i)) }
 {
     match side(end.vertex, i) {
         Side::Up => Some(line_at(row.up, scale, at)),
         Side::Down => Some(line_at(row.low, scale, at)),
-        Side::Basic => {
-            basic_dual(
-                basic_number(end.vertex, end.basic, i),
-                scale,
-                table.cost_scale,
-            )
-        }
+        Side::Basic => basic_dual(end, i, scale, table.cost_scale),
     }
 }
 
@@ -104,20 +100,19 @@ pub(crate) fn duals_of(
     end: End<'_>,
 ) -> Option<Duals>
     requires { IsTable problem.now table.now }
-    ensures { IfSome result (IsDuals problem.now table.now (dual_of (sample value128 problem.now) (rational (value128 end.entry.theta)) end.entry.vertex.now end.entry.basic.now)) }
+    ensures { IfSome result (IsDuals problem.now table.now (dual_of (sample value128 problem.now) (rational end.entry.theta.now) end.entry.vertex.now end.entry.basic.now)) }
 {
-    let scale = common_scale(end.theta, end.basic.as_slice())?;
-    let at = scaled(end.theta, scale)?;
-    if !has_reach(table.cost_limit, scale, at) {
-        return None;
-    }
+    let reach = reach_of(table, end)?;
     let rows = table.rows.as_slice();
     let mut values = List::new(alloc);
     for i in 0..rows.len() {
-        let value = row_dual(table, &rows[i], i, end, scale, at)?;
+        let value = row_dual(table, &rows[i], i, end, reach.scale, reach.at)?;
         if values.push(value).is_err() {
             return None;
         }
     }
-    Some(Duals { scale, values })
+    Some(Duals {
+        scale: reach.scale,
+        values,
+    })
 }

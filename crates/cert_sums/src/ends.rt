@@ -25,12 +25,12 @@ pub struct WholeProblem<'a> {
 }
 
 // The dual values at the low end of a segment.
-fn low_duals(alloc: Global, whole: WholeProblem<'_>, segment: &Segment<Frac128>) -> Option<Duals>
+fn low_duals(alloc: Global, whole: WholeProblem<'_>, segment: &Segment) -> Option<Duals>
     requires { IsTable whole.problem.now whole.table.now }
     ensures { IfSome result (IsDuals whole.entry.problem.now whole.entry.table.now (low_dual whole.entry.problem.now segment.now)) }
 {
     let end = End {
-        theta: segment.lo,
+        theta: &segment.lo,
         vertex: &segment.vertex,
         basic: &segment.basic_lo,
     };
@@ -39,12 +39,12 @@ fn low_duals(alloc: Global, whole: WholeProblem<'_>, segment: &Segment<Frac128>)
 }
 
 // The dual values at its high end.
-fn high_duals(alloc: Global, whole: WholeProblem<'_>, segment: &Segment<Frac128>) -> Option<Duals>
+fn high_duals(alloc: Global, whole: WholeProblem<'_>, segment: &Segment) -> Option<Duals>
     requires { IsTable whole.problem.now whole.table.now }
     ensures { IfSome result (IsDuals whole.entry.problem.now whole.entry.table.now (high_dual whole.entry.problem.now segment.now)) }
 {
     let end = End {
-        theta: segment.hi,
+        theta: &segment.hi,
         vertex: &segment.vertex,
         basic: &segment.basic_hi,
     };
@@ -59,7 +59,7 @@ struct Ends {
     high: Duals,
 }
 
-fn ends_of(alloc: Global, whole: WholeProblem<'_>, segment: &Segment<Frac128>) -> Option<Ends>
+fn ends_of(alloc: Global, whole: WholeProblem<'_>, segment: &Segment) -> Option<Ends>
     requires { IsTable whole.problem.now whole.table.now }
     ensures low { IfSome result (λ ends. IsDuals whole.entry.problem.now whole.entry.table.now (low_dual whole.entry.problem.now segment.now) ends.low) }
     ensures high { IfSome result (λ ends. IsDuals whole.entry.problem.now whole.entry.table.now (high_dual whole.entry.problem.now segment.now) ends.high) }
@@ -70,7 +70,7 @@ fn ends_of(alloc: Global, whole: WholeProblem<'_>, segment: &Segment<Frac128>) -
 }
 
 /// Whether the dual values at both ends of a segment are orthogonal to each column.
-pub fn duals_balance(alloc: Global, whole: WholeProblem<'_>, segment: &Segment<Frac128>) -> bool
+pub fn duals_balance(alloc: Global, whole: WholeProblem<'_>, segment: &Segment) -> bool
     requires { IsTable whole.problem.now whole.table.now }
     ensures low { IsTrue result → IsBalanced (sample value128 whole.entry.problem.now) (low_dual whole.entry.problem.now segment.now) }
     ensures high { IsTrue result → IsBalanced (sample value128 whole.entry.problem.now) (high_dual whole.entry.problem.now segment.now) }
@@ -88,22 +88,22 @@ pub fn duals_balance(alloc: Global, whole: WholeProblem<'_>, segment: &Segment<F
 
 /// Whether the losses that are stated at both ends of a segment are what its dual values come to, and each residual lies
 /// on the side of its row: where the dual values are orthogonal to each column, these are the losses of its coefficients.
-pub fn losses_hold(alloc: Global, whole: WholeProblem<'_>, segment: &Segment<Frac128>) -> bool
+pub fn losses_hold(alloc: Global, whole: WholeProblem<'_>, segment: &Segment) -> bool
     requires table { IsTable whole.problem.now whole.table.now }
     requires low { IsBalanced (sample value128 whole.problem.now) (low_dual whole.problem.now segment.now) }
     requires high { IsBalanced (sample value128 whole.problem.now) (high_dual whole.problem.now segment.now) }
-    ensures low { IsTrue result → IsLossAt whole.entry.problem.now segment.now.vertex (rational (value128 segment.now.lo)) (low_dual whole.entry.problem.now segment.now) (rational (value128 segment.now.loss_lo)) }
-    ensures high { IsTrue result → IsLossAt whole.entry.problem.now segment.now.vertex (rational (value128 segment.now.hi)) (high_dual whole.entry.problem.now segment.now) (rational (value128 segment.now.loss_hi)) }
+    ensures low { IsTrue result → IsLossAt whole.entry.problem.now segment.now.vertex (rational segment.now.lo) (low_dual whole.entry.problem.now segment.now) (rational segment.now.loss_lo) }
+    ensures high { IsTrue result → IsLossAt whole.entry.problem.now segment.now.vertex (rational segment.now.hi) (high_dual whole.entry.problem.now segment.now) (rational segment.now.loss_hi) }
 {
     if !follow_sides(alloc, whole.problem, whole.table, &segment.vertex) {
         return false;
     }
     match ends_of(alloc, whole, segment) {
         Some(ends) => {
-            if !comes_to(whole.problem, whole.table, &ends.low, segment.loss_lo) {
+            if !comes_to(whole.problem, whole.table, &ends.low, &segment.loss_lo) {
                 return false;
             }
-            comes_to(whole.problem, whole.table, &ends.high, segment.loss_hi)
+            comes_to(whole.problem, whole.table, &ends.high, &segment.loss_hi)
         }
         None => false,
     }
@@ -128,12 +128,7 @@ fn agree(left: &Duals, right: &Duals) -> bool
 }
 
 /// Whether each row has the same dual value at the high end of a segment and at the low end of the next one.
-pub fn duals_meet(
-    alloc: Global,
-    whole: WholeProblem<'_>,
-    segment: &Segment<Frac128>,
-    next: &Segment<Frac128>,
-) -> bool
+pub fn duals_meet(alloc: Global, whole: WholeProblem<'_>, segment: &Segment, next: &Segment) -> bool
     requires { IsTable whole.problem.now whole.table.now }
     ensures { IsTrue result → DoMeet whole.entry.problem.now segment.now next.now }
 {

@@ -1,22 +1,12 @@
 //! Operations on fractions, with no answer where one overflows.
-ghost use Rattle.std.specs.Prelude.{◌≡◌, pos, IfSome, IsTrue};
+ghost use Rattle.std.specs.Prelude.{◌≡◌, IfSome};
 ghost use Rattle.rational_laws.specs.Fraction.{rational};
 ghost use Rattle.rational_laws.specs.Order.{cmp_ℚ};
-ghost use Rattle.rational_laws.specs.Rational.{◌+ℚ◌, ◌-ℚ◌, ◌*ℚ◌, whole, ◌≤ℚ◌};
+ghost use Rattle.rational_laws.specs.Rational.{◌-ℚ◌, ◌*ℚ◌};
 ghost use Rattle.frac_core.specs.Values.{value as value128};
 
 use frac_core::{Exact, Frac128};
 use std::cmp::Ordering;
-
-/// The sum.
-pub(crate) fn plus(left: Frac128, right: Frac128) -> Option<Frac128>
-    ensures { IfSome result (λ r. rational (value128 r) ≡ rational (value128 left) +ℚ rational (value128 right)) }
-{
-    match left.try_add(right) {
-        Ok(sum) => Some(sum),
-        Err(_) => None,
-    }
-}
 
 /// The difference.
 pub(crate) fn minus(left: Frac128, right: Frac128) -> Option<Frac128>
@@ -36,13 +26,6 @@ pub(crate) fn times(left: Frac128, right: Frac128) -> Option<Frac128>
         Ok(product) => Some(product),
         Err(_) => None,
     }
-}
-
-/// Whether one is at most the other.
-pub(crate) fn at_most(left: Frac128, right: Frac128) -> bool
-    ensures { IsTrue result → rational (value128 left) ≤ℚ rational (value128 right) }
-{
-    left.compare(right).is_le()
 }
 
 /// How a fraction compares with the product of two others, of which the first has to be above 0: that divides it, so that

@@ -7,11 +7,11 @@ ghost use Rattle.rational_laws.specs.Fraction.{rational};
 ghost use Rattle.rational_laws.specs.Rational.{◌-ℚ◌, ◌*ℚ◌, whole};
 ghost use Rattle.rational_laws.specs.Terms.{delta};
 ghost use Rattle.frac_core.specs.Values.{value as value128};
-ghost use Rattle.loss_model.specs.Problem.{sample, value_at};
+ghost use Rattle.loss_model.specs.Problem.{number_at, sample};
 ghost use Rattle.rank_model.specs.Restricted.{projected, IsProjection, squared_length};
 ghost use Rattle.wide_int.specs.Numbers.{sizes};
 ghost use Rattle.rational_laws.specs.WholeLists.{whole_at};
-ghost use Rattle.cert_sums.specs.Tables.{IsTable};
+ghost use Rattle.cert_sums.specs.Tables.{AreNarrow, IsTable};
 ghost use Rattle.cert_sums.specs.Duals.{IsDuals};
 ghost use Rattle.cert_sums.specs.Ranks.{left_at, IsPositive};
 
@@ -19,12 +19,13 @@ use crate::duals::Duals;
 use crate::ends::WholeProblem;
 use crate::fractions::minus;
 use crate::products::has_room;
-use crate::scale::{common_scale, scaled};
+use crate::scale::{common_scale, narrow, scaled};
 use crate::table::Table;
 use crate::totals::{balances_but, column_number};
 use crate::vertices::item_at;
 use frac_core::{Exact, Frac128, List};
 use loss_model::{IntervalProof, Problem};
+use ratio::Ratio;
 use std::alloc::Global;
 use wide_int::row_product;
 
@@ -39,19 +40,15 @@ fn left_factor(factor: Frac128, own: bool) -> Option<Frac128>
 }
 
 // Those numbers times a scale, and behind them 0 for the response.
-fn left_factors(
-    alloc: Global,
-    factors: &[Frac128],
-    column: usize,
-    scale: u128,
-) -> Option<List<i128>>
+fn left_factors(alloc: Global, factors: &[Ratio], column: usize, scale: u128) -> Option<List<i128>>
     ensures size { IfSome result (λ made. length made ≡ length factors.now + 1) }
-    ensures each { IfSome result (λ made. (k : ℕ) → k < length factors.now → whole_at made k ≡ whole (pos scale) *ℚ (delta k column -ℚ value_at value128 factors.now k)) }
+    ensures each { IfSome result (λ made. (k : ℕ) → k < length factors.now → whole_at made k ≡ whole (pos scale) *ℚ (delta k column -ℚ number_at factors.now k)) }
     ensures last { IfSome result (λ made. whole_at made (length factors.now) ≡ whole (pos 0)) }
 {
     let mut made = List::new(alloc);
     for k in 0..factors.len() {
-        let factor = left_factor(factors[k], k == column)?;
+        let stated = narrow(&factors[k])?;
+        let factor = left_factor(stated, k == column)?;
         let number = scaled(factor, scale)?;
         if made.push(number).is_err() {
             return None;
@@ -73,8 +70,9 @@ fn weighted(left: i128, weight: i64) -> Option<i128>
 
 // What the numbers leave of each row, times the square of its weight.
 fn left_values(alloc: Global, table: &Table, numbers: &[i128]) -> Option<List<i128>>
-    requires same { All (λ w. length w.cells ≡ length numbers.now) table.now.rows }
-    requires small { All (λ w. All (λ e. unsigned_abs e ≤ table.now.limit) w.cells) table.now.rows }
+    requires same { All (λ w. length w.narrow ≡ length numbers.now) table.now.rows }
+    requires small { All (λ w. All (λ e. unsigned_abs e ≤ table.now.limit) w.narrow) table.now.rows }
+    requires narrow { AreNarrow table.now.rows }
     requires bound { table.now.limit * sizes numbers.now < 2 ^ 127 }
     ensures size { IfSome result (λ made. length made ≡ length table.now.rows) }
     ensures each { IfSome result (λ made. (i : ℕ) → i < length table.now.rows → whole_at made i ≡ left_at table.now.rows numbers.now i) }
@@ -83,7 +81,7 @@ fn left_values(alloc: Global, table: &Table, numbers: &[i128]) -> Option<List<i1
     let mut made = List::new(alloc);
     for i in 0..rows.len() {
         let row = &rows[i];
-        let left = row_product(row.cells.as_slice(), numbers, table.limit);
+        let left = row_product(row.narrow.as_slice(), numbers, table.limit);
         let value = weighted(left, row.up.slope)?;
         if made.push(value).is_err() {
             return None;
@@ -105,11 +103,14 @@ fn left_of(
     alloc: Global,
     problem: &Problem<Frac128>,
     table: &Table,
-    interval: &IntervalProof<Frac128>,
+    interval: &IntervalProof,
 ) -> Option<Duals>
     requires { IsTable problem.now table.now }
-    ensures { IfSome result (IsDuals problem.now table.now (λ i. (sample value128 problem.now).up1 i *ℚ projected (sample value128 problem.now) interval.now.column (value_at value128 interval.now.projection) i)) }
+    ensures { IfSome result (IsDuals problem.now table.now (λ i. (sample value128 problem.now).up1 i *ℚ projected (sample value128 problem.now) interval.now.column (number_at interval.now.projection) i)) }
 {
+    if !table.is_narrow {
+        return None;
+    }
     let factors = interval.projection.as_slice();
     let column = interval.column as usize;
     if factors.len() != problem.columns as usize {
@@ -118,7 +119,7 @@ fn left_of(
     if column >= factors.len() {
         return None;
     }
-    let scale = common_scale(Frac128::one(), factors)?;
+    let scale = common_scale(1, factors)?;
     let numbers = left_factors(alloc, factors, column, scale)?;
     if !has_room(numbers.as_slice(), table.limit) {
         return None;
@@ -132,17 +133,18 @@ fn left_of(
 pub(crate) fn length_of(
     alloc: Global,
     whole: WholeProblem<'_>,
-    interval: &IntervalProof<Frac128>,
+    interval: &IntervalProof,
 ) -> Option<Frac128>
     requires { IsTable whole.problem.now whole.table.now }
-    ensures projection { IfSome result (λ _. IsProjection (sample value128 whole.entry.problem.now) interval.now.column (value_at value128 interval.now.projection)) }
-    ensures length { IfSome result (λ q. rational (value128 q) ≡ squared_length (sample value128 whole.entry.problem.now) interval.now.column (value_at value128 interval.now.projection)) }
+    ensures projection { IfSome result (λ _. IsProjection (sample value128 whole.entry.problem.now) interval.now.column (number_at interval.now.projection)) }
+    ensures length { IfSome result (λ q. rational (value128 q) ≡ squared_length (sample value128 whole.entry.problem.now) interval.now.column (number_at interval.now.projection)) }
 {
     let column = interval.column;
     if column >= whole.problem.columns {
         return None;
     }
-    if !item_at(interval.projection.as_slice(), column as usize).is_zero() {
+    let own = item_at(interval.projection.as_slice(), column as usize)?;
+    if !own.is_zero() {
         return None;
     }
     let left = left_of(alloc, whole.problem, whole.table, interval)?;
@@ -154,10 +156,10 @@ pub(crate) fn length_of(
 }
 
 /// Whether the factors of an interval project its column on the other ones, and leave some of it.
-pub fn projects(alloc: Global, whole: WholeProblem<'_>, interval: &IntervalProof<Frac128>) -> bool
+pub fn projects(alloc: Global, whole: WholeProblem<'_>, interval: &IntervalProof) -> bool
     requires { IsTable whole.problem.now whole.table.now }
-    ensures projection { IsTrue result → IsProjection (sample value128 whole.entry.problem.now) interval.now.column (value_at value128 interval.now.projection) }
-    ensures some { IsTrue result → IsPositive (squared_length (sample value128 whole.entry.problem.now) interval.now.column (value_at value128 interval.now.projection)) }
+    ensures projection { IsTrue result → IsProjection (sample value128 whole.entry.problem.now) interval.now.column (number_at interval.now.projection) }
+    ensures some { IsTrue result → IsPositive (squared_length (sample value128 whole.entry.problem.now) interval.now.column (number_at interval.now.projection)) }
 {
     match length_of(alloc, whole, interval) {
         Some(length) => length.sign() > 0,

@@ -3,20 +3,21 @@
 ghost use Rattle.std.specs.Prelude.{◌≡◌, ◌<◌, ◌≤◌, ◌+◌, ℕ, All, IfSome, IsTrue, length, slice_get, Some};
 ghost use Rattle.rational_laws.specs.Fraction.{rational};
 ghost use Rattle.loss_model.specs.declared.process.Segment.{Segment as Piece};
-ghost use Rattle.frac_core.specs.declared.frac128.Frac128.{Frac128 as Fraction128};
 ghost use Rattle.frac_core.specs.Values.{value as value128};
 ghost use Rattle.cert_sums.specs.Tables.{IsTable};
 ghost use Rattle.cert_sums.specs.Ends.{low_dual, high_dual, DoMeet, IsBegun, IsEnded, IsHeldAt};
-ghost use Rattle.cert_sums.specs.Slopes.{IsTally, IsReach, IsCounted};
+ghost use Rattle.cert_sums.specs.Slopes.{end_dual, IsTally, IsCounted, IsSummed};
 
 use crate::duals::End;
 use crate::ends::WholeProblem;
-use crate::reach::{Reach, reach_of};
+use crate::long_sums::{long_meet, long_summed};
+use crate::reach::reach_of;
 use crate::residuals::follow_sides;
-use crate::segment_sums::{all_share, is_summed};
+use crate::scale::is_same;
+use crate::segment_sums::{is_summed, narrow_meet};
 use crate::slopes::{Tally, tally_of, turned, unsettled_rows};
-use frac_core::{Exact, Frac128};
 use loss_model::Segment;
+use ratio::Ratio;
 use std::alloc::Global;
 
 // How many cells a row has.
@@ -26,17 +27,36 @@ fn width(whole: WholeProblem<'_>) -> usize
     whole.problem.columns as usize + 1
 }
 
-// What the sums of a segment come to at its low end: whether the dual values balance, and come to the loss stated there.
-fn begins(alloc: Global, whole: WholeProblem<'_>, segment: &Segment<Frac128>, tally: &Tally) -> bool
+// Whether the sums of a tally are those of dual values that balance and come to what is stated.
+fn is_summed_at(
+    alloc: Global,
+    whole: WholeProblem<'_>,
+    tally: &Tally,
+    end: End<'_>,
+    stated: &Ratio,
+) -> bool
     requires table { IsTable whole.problem.now whole.table.now }
-    requires tally { IsTally whole.table.now.rows (whole.problem.now.columns + 1) segment.now.vertex.sides tally.now }
-    ensures { IsTrue result → IsBegun whole.entry.problem.now segment.now }
+    requires tally { IsTally whole.table.now.rows (whole.problem.now.columns + 1) end.vertex.now.sides tally.now }
+    ensures { IsTrue result → IsSummed whole.entry.problem.now (end_dual whole.entry.problem.now end.entry.theta.now end.entry.vertex.now end.entry.basic.now) (rational stated.now) }
 {
-    let end = End {
-        theta: segment.lo,
-        vertex: &segment.vertex,
-        basic: &segment.basic_lo,
-    };
+    if narrow_summed(alloc, whole, tally, end, stated) {
+        return true;
+    }
+    long_summed(alloc, whole.problem, whole.table, tally, end, stated)
+}
+
+// The same, by numbers of 127 bits.
+fn narrow_summed(
+    alloc: Global,
+    whole: WholeProblem<'_>,
+    tally: &Tally,
+    end: End<'_>,
+    stated: &Ratio,
+) -> bool
+    requires table { IsTable whole.problem.now whole.table.now }
+    requires tally { IsTally whole.table.now.rows (whole.problem.now.columns + 1) end.vertex.now.sides tally.now }
+    ensures { IsTrue result → IsSummed whole.entry.problem.now (end_dual whole.entry.problem.now end.entry.theta.now end.entry.vertex.now end.entry.basic.now) (rational stated.now) }
+{
     match reach_of(whole.table, end) {
         Some(reach) => is_summed(
             alloc,
@@ -45,97 +65,93 @@ fn begins(alloc: Global, whole: WholeProblem<'_>, segment: &Segment<Frac128>, ta
             tally,
             end,
             &reach,
-            segment.loss_lo,
+            stated,
         ),
         None => false,
     }
 }
 
-// The quantile at its high end, where they balance and come to the loss stated there.
-fn ended(
-    alloc: Global,
-    whole: WholeProblem<'_>,
-    segment: &Segment<Frac128>,
-    tally: &Tally,
-) -> Option<Reach>
+// What the sums of a segment come to at its low end: whether the dual values balance, and come to the loss stated there.
+fn begins(alloc: Global, whole: WholeProblem<'_>, segment: &Segment, tally: &Tally) -> bool
     requires table { IsTable whole.problem.now whole.table.now }
     requires tally { IsTally whole.table.now.rows (whole.problem.now.columns + 1) segment.now.vertex.sides tally.now }
-    ensures reach { IfSome result (IsReach whole.entry.table.now.cost_limit (rational (value128 segment.now.hi))) }
-    ensures ended { IfSome result (λ _. IsEnded whole.entry.problem.now segment.now) }
+    ensures { IsTrue result → IsBegun whole.entry.problem.now segment.now }
 {
     let end = End {
-        theta: segment.hi,
+        theta: &segment.lo,
+        vertex: &segment.vertex,
+        basic: &segment.basic_lo,
+    };
+    is_summed_at(alloc, whole, tally, end, &segment.loss_lo)
+}
+
+// The same at its high end.
+fn ends(alloc: Global, whole: WholeProblem<'_>, segment: &Segment, tally: &Tally) -> bool
+    requires table { IsTable whole.problem.now whole.table.now }
+    requires tally { IsTally whole.table.now.rows (whole.problem.now.columns + 1) segment.now.vertex.sides tally.now }
+    ensures { IsTrue result → IsEnded whole.entry.problem.now segment.now }
+{
+    let end = End {
+        theta: &segment.hi,
         vertex: &segment.vertex,
         basic: &segment.basic_hi,
     };
-    let reach = reach_of(whole.table, end)?;
-    if !is_summed(
-        alloc,
-        whole.problem,
-        whole.table,
-        tally,
-        end,
-        &reach,
-        segment.loss_hi,
-    ) {
-        return None;
-    }
-    Some(reach)
+    is_summed_at(alloc, whole, tally, end, &segment.loss_hi)
 }
 
 // Whether each row of a list has the same dual value at the high end of a segment and at the low end of the next one.
 fn meet_in(
+    alloc: Global,
     whole: WholeProblem<'_>,
     list: &[usize],
-    segment: &Segment<Frac128>,
-    reach: &Reach,
-    next: &Segment<Frac128>,
+    segment: &Segment,
+    next: &Segment,
 ) -> bool
     requires table { IsTable whole.problem.now whole.table.now }
-    requires reach { IsReach whole.table.now.cost_limit (rational (value128 segment.now.hi)) reach.now }
-    requires same { rational (value128 segment.now.hi) ≡ rational (value128 next.now.lo) }
+    requires same { rational segment.now.hi ≡ rational next.now.lo }
     ensures { IsTrue result → All (λ i. high_dual whole.entry.problem.now segment.now i ≡ low_dual whole.entry.problem.now next.now i) list.now }
 {
     let left = End {
-        theta: segment.hi,
+        theta: &segment.hi,
         vertex: &segment.vertex,
         basic: &segment.basic_hi,
     };
     let right = End {
-        theta: next.lo,
+        theta: &next.lo,
         vertex: &next.vertex,
         basic: &next.basic_lo,
     };
-    all_share(whole.problem, whole.table, list, left, right, reach)
+    if narrow_meet(whole.problem, whole.table, list, left, right) {
+        return true;
+    }
+    long_meet(alloc, whole.problem, whole.table, list, left, right)
 }
 
 // The tally of the next segment, where it begins with the dual values and the loss with which a segment ends.
 fn goes_on(
     alloc: Global,
     whole: WholeProblem<'_>,
-    segment: &Segment<Frac128>,
+    segment: &Segment,
     tally: &Tally,
-    reach: &Reach,
-    next: &Segment<Frac128>,
+    next: &Segment,
 ) -> Option<Tally>
     requires table { IsTable whole.problem.now whole.table.now }
     requires tally { IsTally whole.table.now.rows (whole.problem.now.columns + 1) segment.now.vertex.sides tally.now }
-    requires reach { IsReach whole.table.now.cost_limit (rational (value128 segment.now.hi)) reach.now }
     ensures meets { IfSome result (λ _. DoMeet whole.entry.problem.now segment.now next.now) }
-    ensures loss { IfSome result (λ _. rational (value128 segment.now.loss_hi) ≡ rational (value128 next.now.loss_lo)) }
+    ensures loss { IfSome result (λ _. rational segment.now.loss_hi ≡ rational next.now.loss_lo) }
     ensures tally { IfSome result (IsTally whole.entry.table.now.rows (whole.entry.problem.now.columns + 1) next.now.vertex.sides) }
 {
-    if !segment.loss_hi.compare(next.loss_lo).is_eq() {
+    if !is_same(&segment.loss_hi, &next.loss_lo) {
         return None;
     }
-    if !segment.hi.compare(next.lo).is_eq() {
+    if !is_same(&segment.hi, &next.lo) {
         return None;
     }
     let rows = whole.table.rows.as_slice();
     let old = segment.vertex.sides.as_slice();
     let new = next.vertex.sides.as_slice();
     let unsettled = unsettled_rows(alloc, old, new, rows.len())?;
-    if !meet_in(whole, unsettled.as_slice(), segment, reach, next) {
+    if !meet_in(alloc, whole, unsettled.as_slice(), segment, next) {
         return None;
     }
     let made = turned(alloc, rows, width(whole), tally, old, new, unsettled)?;
@@ -147,26 +163,28 @@ fn goes_on(
 fn holds_at(
     alloc: Global,
     whole: WholeProblem<'_>,
-    segments: &[Segment<Frac128>],
+    segments: &[Segment],
     place: usize,
     tally: Tally,
 ) -> Option<Tally>
     requires table { IsTable whole.problem.now whole.table.now }
     requires within { place < length segments.now }
-    requires begun { (s : Piece Fraction128) → slice_get segments.now place ≡ Some s → IsCounted whole.problem.now whole.table.now tally s }
+    requires begun { (s : Piece) → slice_get segments.now place ≡ Some s → IsCounted whole.problem.now whole.table.now tally s }
     ensures held { IfSome result (λ _. IsHeldAt whole.entry.problem.now segments.now place) }
-    ensures next { IfSome result (λ made. (s : Piece Fraction128) → slice_get segments.now (place + 1) ≡ Some s → IsCounted whole.entry.problem.now whole.entry.table.now made s) }
+    ensures next { IfSome result (λ made. (s : Piece) → slice_get segments.now (place + 1) ≡ Some s → IsCounted whole.entry.problem.now whole.entry.table.now made s) }
 {
     let segment = &segments[place];
     if !follow_sides(alloc, whole.problem, whole.table, &segment.vertex) {
         return None;
     }
-    let reach = ended(alloc, whole, segment, &tally)?;
+    if !ends(alloc, whole, segment, &tally) {
+        return None;
+    }
     let after = place + 1;
     if after >= segments.len() {
         return Some(tally);
     }
-    let made = goes_on(alloc, whole, segment, &tally, &reach, &segments[after])?;
+    let made = goes_on(alloc, whole, segment, &tally, &segments[after])?;
     Some(made)
 }
 
@@ -174,14 +192,14 @@ fn holds_at(
 fn run_from(
     alloc: Global,
     whole: WholeProblem<'_>,
-    segments: &[Segment<Frac128>],
+    segments: &[Segment],
     first: usize,
     past: usize,
     tally: Tally,
 ) -> bool
     requires table { IsTable whole.problem.now whole.table.now }
     requires within { past ≤ length segments.now }
-    requires begun { (s : Piece Fraction128) → slice_get segments.now first ≡ Some s → IsCounted whole.problem.now whole.table.now tally s }
+    requires begun { (s : Piece) → slice_get segments.now first ≡ Some s → IsCounted whole.problem.now whole.table.now tally s }
     ensures { IsTrue result → (j : ℕ) → j < past → first ≤ j → IsHeldAt whole.entry.problem.now segments.now j }
 {
     let mut current = tally;
@@ -206,7 +224,7 @@ fn lesser(count: usize, most: usize) -> usize
 }
 
 // The tally of a segment that begins as it should.
-fn counted(alloc: Global, whole: WholeProblem<'_>, segment: &Segment<Frac128>) -> Option<Tally>
+fn counted(alloc: Global, whole: WholeProblem<'_>, segment: &Segment) -> Option<Tally>
     requires { IsTable whole.problem.now whole.table.now }
     ensures { IfSome result (λ tally. IsCounted whole.entry.problem.now whole.entry.table.now tally segment.now) }
 {
@@ -223,7 +241,7 @@ fn counted(alloc: Global, whole: WholeProblem<'_>, segment: &Segment<Frac128>) -
 pub fn run_holds(
     alloc: Global,
     whole: WholeProblem<'_>,
-    segments: &[Segment<Frac128>],
+    segments: &[Segment],
     first: usize,
     past: usize,
 ) -> bool

@@ -8,14 +8,15 @@ ghost use Rattle.cert_sums.specs.Tables.{IsTable};
 ghost use Rattle.cert_sums.specs.Slopes.{basic_at, end_dual, over_scales, sum_at, IsTally, IsReach, IsSummed};
 
 use crate::duals::{End, basic_dual, row_dual};
-use crate::reach::Reach;
-use crate::scale::product;
+use crate::reach::{Reach, reach_of};
+use crate::scale::{is_number, product};
 use crate::slopes::{Tally, number_at, with_rows};
 use crate::table::{Table, WholeRow};
 use crate::totals::over_scales;
-use crate::vertices::{basic_number, side};
+use crate::vertices::side;
 use frac_core::{Exact, Frac128, List};
 use loss_model::{Problem, Side};
+use ratio::Ratio;
 use std::alloc::Global;
 
 /// The rows, their tally, and what it is read with at an end: the quantile, and the dual values of the basic rows, each for
@@ -35,7 +36,7 @@ fn basic_at(end: End<'_>, row: usize, scale: u128, cost_scale: u128) -> Option<i
     match side(end.vertex, row) {
         Side::Up => Some(0),
         Side::Down => Some(0),
-        Side::Basic => basic_dual(basic_number(end.vertex, end.basic, row), scale, cost_scale),
+        Side::Basic => basic_dual(end, row, scale, cost_scale),
     }
 }
 
@@ -109,11 +110,11 @@ fn objective(view: View<'_>, table: &Table, columns: u32) -> Option<Frac128>
 }
 
 // Whether that is a number.
-fn comes_to(view: View<'_>, table: &Table, columns: u32, stated: Frac128) -> bool
-    ensures { IsTrue result → rational (value128 stated) ≡ over_scales table.now view.entry.reach.now.scale (sum_at view.entry.rows.now view.entry.tally.now view.entry.values.now view.entry.reach.now columns) }
+fn comes_to(view: View<'_>, table: &Table, columns: u32, stated: &Ratio) -> bool
+    ensures { IsTrue result → rational stated.now ≡ over_scales table.now view.entry.reach.now.scale (sum_at view.entry.rows.now view.entry.tally.now view.entry.values.now view.entry.reach.now columns) }
 {
     match objective(view, table, columns) {
-        Some(found) => stated.compare(found).is_eq(),
+        Some(found) => is_number(stated, found),
         None => false,
     }
 }
@@ -126,12 +127,12 @@ pub(crate) fn is_summed(
     tally: &Tally,
     end: End<'_>,
     reach: &Reach,
-    stated: Frac128,
+    stated: &Ratio,
 ) -> bool
     requires table { IsTable problem.now table.now }
     requires tally { IsTally table.now.rows (problem.now.columns + 1) end.vertex.now.sides tally.now }
-    requires reach { IsReach table.now.cost_limit (rational (value128 end.theta)) reach.now }
-    ensures { IsTrue result → IsSummed problem.now (end_dual problem.now end.entry.theta end.entry.vertex.now end.entry.basic.now) (rational (value128 stated)) }
+    requires reach { IsReach table.now.cost_limit (rational end.theta.now) reach.now }
+    ensures { IsTrue result → IsSummed problem.now (end_dual problem.now end.entry.theta.now end.entry.vertex.now end.entry.basic.now) (rational stated.now) }
 {
     let list = tally.unsettled.as_slice();
     match basic_values(alloc, list, end, reach.scale, table.cost_scale) {
@@ -162,8 +163,8 @@ fn dual_at(
     reach: &Reach,
 ) -> Option<i128>
     requires table { IsTable problem.now table.now }
-    requires reach { IsReach table.now.cost_limit (rational (value128 end.theta)) reach.now }
-    ensures { IfSome result (λ e. whole e ≡ (whole (pos reach.now.scale) *ℚ whole (pos table.now.cost_scale)) *ℚ end_dual problem.now end.entry.theta end.entry.vertex.now end.entry.basic.now row) }
+    requires reach { IsReach table.now.cost_limit (rational end.theta.now) reach.now }
+    ensures { IfSome result (λ e. whole e ≡ (whole (pos reach.now.scale) *ℚ whole (pos table.now.cost_scale)) *ℚ end_dual problem.now end.entry.theta.now end.entry.vertex.now end.entry.basic.now row) }
 {
     let rows = table.rows.as_slice();
     if row >= rows.len() {
@@ -183,9 +184,9 @@ fn shares(
     reach: &Reach,
 ) -> bool
     requires table { IsTable problem.now table.now }
-    requires left { IsReach table.now.cost_limit (rational (value128 left.theta)) reach.now }
-    requires right { IsReach table.now.cost_limit (rational (value128 right.theta)) reach.now }
-    ensures { IsTrue result → end_dual problem.now left.entry.theta left.entry.vertex.now left.entry.basic.now row ≡ end_dual problem.now right.entry.theta right.entry.vertex.now right.entry.basic.now row }
+    requires left { IsReach table.now.cost_limit (rational left.theta.now) reach.now }
+    requires right { IsReach table.now.cost_limit (rational right.theta.now) reach.now }
+    ensures { IsTrue result → end_dual problem.now left.entry.theta.now left.entry.vertex.now left.entry.basic.now row ≡ end_dual problem.now right.entry.theta.now right.entry.vertex.now right.entry.basic.now row }
 {
     match dual_at(problem, table, row, left, reach) {
         Some(before) => match dual_at(problem, table, row, right, reach) {
@@ -201,8 +202,8 @@ fn shares(
     }
 }
 
-/// Whether all rows of a list do.
-pub(crate) fn all_share(
+// Whether all rows of a list do.
+fn all_share(
     problem: &Problem<Frac128>,
     table: &Table,
     list: &[usize],
@@ -211,9 +212,9 @@ pub(crate) fn all_share(
     reach: &Reach,
 ) -> bool
     requires table { IsTable problem.now table.now }
-    requires left { IsReach table.now.cost_limit (rational (value128 left.theta)) reach.now }
-    requires right { IsReach table.now.cost_limit (rational (value128 right.theta)) reach.now }
-    ensures { IsTrue result → All (λ i. end_dual problem.now left.entry.theta left.entry.vertex.now left.entry.basic.now i ≡ end_dual problem.now right.entry.theta right.entry.vertex.now right.entry.basic.now i) list.now }
+    requires left { IsReach table.now.cost_limit (rational left.theta.now) reach.now }
+    requires right { IsReach table.now.cost_limit (rational right.theta.now) reach.now }
+    ensures { IsTrue result → All (λ i. end_dual problem.now left.entry.theta.now left.entry.vertex.now left.entry.basic.now i ≡ end_dual problem.now right.entry.theta.now right.entry.vertex.now right.entry.basic.now i) list.now }
 {
     for j in 0..list.len() {
         if !shares(problem, table, list[j], left, right, reach) {
@@ -221,4 +222,22 @@ pub(crate) fn all_share(
         }
     }
     true
+}
+
+/// Whether all rows of a list have the same dual value at two ends of one quantile.
+pub(crate) fn narrow_meet(
+    problem: &Problem<Frac128>,
+    table: &Table,
+    list: &[usize],
+    left: End<'_>,
+    right: End<'_>,
+) -> bool
+    requires table { IsTable problem.now table.now }
+    requires same { rational left.theta.now ≡ rational right.theta.now }
+    ensures { IsTrue result → All (λ i. end_dual problem.now left.entry.theta.now left.entry.vertex.now left.entry.basic.now i ≡ end_dual problem.now right.entry.theta.now right.entry.vertex.now right.entry.basic.now i) list.now }
+{
+    match reach_of(table, left) {
+        Some(reach) => all_share(problem, table, list, left, right, &reach),
+        None => false,
+    }
 }

@@ -100,8 +100,8 @@ pub(crate) fn unsettled_rows(
     Some(made)
 }
 
-// The cell of a row at a place, where there is one.
-fn cell(rows: &[WholeRow], row: usize, place: usize) -> Option<i64>
+/// The cell of a row at a place, where there is one.
+pub(crate) fn cell(rows: &[WholeRow], row: usize, place: usize) -> Option<i128>
     ensures { IfSome result (λ x. whole x ≡ cell_at rows.now place row) }
 {
     if row >= rows.len() {
@@ -150,12 +150,15 @@ fn changes_of(alloc: Global, turn: Turn<'_>, part: Part) -> Option<List<i128>>
 
 // A product, which is no call where both numbers have 64 bits.
 #[inline]
-fn product_of(x: i64, value: i128) -> Option<i128>
+fn product_of(x: i128, value: i128) -> Option<i128>
     ensures { IfSome result (λ y. y ≡ value *ℤ x) }
 {
-    match i64::try_from(value) {
-        Ok(narrow) => Some(narrow as i128 * x as i128),
-        Err(_) => value.checked_mul(x as i128),
+    match i64::try_from(x) {
+        Ok(short) => match i64::try_from(value) {
+            Ok(narrow) => Some(narrow as i128 * short as i128),
+            Err(_) => value.checked_mul(x),
+        },
+        Err(_) => value.checked_mul(x),
     }
 }
 

@@ -1,5 +1,5 @@
 -- A list that is read item by item.
-use Rattle.std.proofs.Common.{◌≡◌, ℕ, suc, ◌+◌, ◌-◌, ◌<◌, ◌≤◌, List, [], ◌∷◌, ◌++◌, Option, Some, None, Ok, Err, All, length, take, drop, get_or, map, option_map, slice_get, refl, sym, ap, ap₂, ◌∙◌, subst, append_assoc, append-nil, arith}
+use Rattle.std.proofs.Common.{◌≡◌, ℕ, suc, ◌+◌, ◌-◌, ◌<◌, ◌≤◌, List, [], ◌∷◌, ◌++◌, Option, Some, None, Ok, Err, All, length, take, drop, get_or, map, slice_get, refl, sym, ap, ap₂, ◌∙◌, subst, append_assoc, append-nil, arith}
 use Rattle.std.proofs.lemmas.List.{drop_more, drop_all, map_push, take_more, take_all}
 use Rattle.std.specs.List.{last_or}
 use Rattle.serde_json.specs.Data.{Data, Items, no_items, item}
@@ -117,7 +117,3 @@ last_of [] = refl
 last_of (x ∷ xs) =
     let e : suc (length xs) - 1 ≡ length xs = omega arith in
     ap (slice_get (x ∷ xs)) e ∙ last_behind x xs
-
-pub last_shown : {T A : Type 0} (show : T → A) (o : Option T) (xs : List T) → last_or (option_map show o) (map show xs) ≡ option_map show (last_or o xs)
-last_shown show o [] = refl
-last_shown show o (x ∷ xs) = last_shown show (Some x) xs

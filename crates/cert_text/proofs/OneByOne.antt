@@ -1,5 +1,5 @@
 -- Moves that are made one by one.
-use Rattle.std.proofs.Common.{◌≡◌, ℕ, ◌+◌, ◌<◌, true, false, List, [], ◌∷◌, None, length, drop, get_or, slice_set, if◌then◌else◌, refl, sym, ap, ◌∙◌}
+use Rattle.std.proofs.Common.{◌≡◌, ℕ, ◌+◌, ◌<◌, Bool, true, false, List, [], ◌∷◌, Some, None, length, drop, get_or, slice_set, if◌then◌else◌, refl, sym, ap, ap₂, ◌∙◌}
 use Rattle.std.proofs.lemmas.List.{drop_more}
 use Rattle.cert_text.specs.Chains.{may_move, moved, moves_from}
 use Rattle.cert_text.specs.declared.place.Place.{Place}
@@ -20,3 +20,9 @@ module _ {F : Type 0} (start ps : List (Place F)) (all : List (Move F)) (i k : �
 
   pub made : may_move i ps m ≡ true → moved 0 start all ≡ moved (m.row + 1) (slice_set ps m.row m.place) (drop (k + 1) all)
   made h = turn ∙ ap (λ b. if b then moved (m.row + 1) (slice_set ps m.row m.place) (drop (k + 1) all) else None) h
+
+-- the moves from a list of places, as they were made
+pub moved_as : {F : Type 0} (start places : List (Place F)) (seen ms : List (Move F)) (o : List (Place F)) (made b : Bool)
+    → start ≡ places → seen ≡ ms → moved 0 start seen ≡ (if made then Some o else None) → made ≡ b → moved 0 places ms ≡ (if b then Some o else None)
+moved_as start places seen ms o made b from all h is =
+    ap₂ (moved 0) (sym from) (sym all) ∙ h ∙ ap (λ c. if c then Some o else None) is

@@ -1,7 +1,8 @@
 -- Stated. The certificate that bytes are, or their first fault.
 use Rattle.std.specs.Prelude.{ℕ, List, [], ◌∷◌, ◌==◌, ◌||◌, ◌*◌, Bool, true, false, Option, Some}
-use Rattle.std.specs.Prelude.{None, Ok, Err, codes, length, map, nat_lt, option_and_then, option_map, ⊤, if◌then◌else◌}
+use Rattle.std.specs.Prelude.{None, Ok, Err, codes, length, map, nat_lt, is_some, option_and_then, option_map, ⊤, if◌then◌else◌}
 use Rattle.std.specs.Str.{is_utf8, bytes_eq}
+use Rattle.rational_laws.specs.Fraction.{Fraction}
 use Rattle.rational_laws.specs.Rational.{ℚ}
 use Rattle.frac_core.specs.Limits.{most_rows, most_columns}
 use Rattle.loss_model.specs.declared.problem.Row.{Row}
@@ -13,8 +14,8 @@ use Rattle.loss_model.specs.declared.interval.Bound.TheVariants.{Finite, Infinit
 use Rattle.loss_model.specs.declared.interval.Beyond.TheVariants.{Outside, Ray}
 use Rattle.loss_model.specs.declared.interval.End.{End}
 use Rattle.loss_model.specs.declared.interval.IntervalProof.{IntervalProof}
-use Rattle.serde_json.specs.Data.{Data, Members}
-use Rattle.serde_json.specs.Find.{as_number, as_u64, as_str, as_object, get}
+use Rattle.serde_json.specs.Data.{Data, Items, no_items, item, Members}
+use Rattle.serde_json.specs.Find.{as_array, as_number, as_u64, as_str, as_object, get}
 use Rattle.serde_json.specs.Read.{read}
 use Rattle.cert_text.specs.Contents.{Content}
 use Rattle.cert_text.specs.Kept.{basic_rows}
@@ -25,8 +26,11 @@ use Rattle.cert_text.specs.Reading.{Reading, Reader, on_read, under, or_shape, f
 use Rattle.cert_text.specs.declared.place.Place.{Place}
 use Rattle.cert_text.specs.declared.place.Place.TheVariants.{Above, Below, On}
 use Rattle.cert_text.specs.declared.moves.Move.{Move}
+use Rattle.cert_text.specs.Ratios.{ratio}
 use Rattle.cert_text.specs.declared.layout.Layout.{Layout}
-use Rattle.cert_text.specs.declared.layout.Layout.TheVariants.{Full, Chained}
+use Rattle.cert_text.specs.declared.layout.Layout.TheVariants.{Full, Chained, Wide}
+use Rattle.cert_text.specs.declared.layout.Width.{Width}
+use Rattle.cert_text.specs.declared.layout.Width.TheVariants.{Narrow, Long}
 use Rattle.cert_text.specs.declared.fault.CertFault.TheVariants.{NotJson, Version, TooLarge}
 
 abbrev pub fractions : Reader (List ℚ)
@@ -49,6 +53,11 @@ row_members ms =
 unfoldable pub row : Reader (Row ℚ)
 row = object_of row_members
 
+-- ---- numbers of an answer
+
+abbrev pub ratios : Width → Reader (List Fraction)
+ratios width = list (ratio width)
+
 -- ---- sides and vertices
 
 -- a side by its sign: above the fit, below it, or on it
@@ -65,26 +74,26 @@ unfoldable pub sides : Reader (List Side)
 sides d = or_shape (option_and_then sides_of (as_str d))
 
 -- the vertex with these sides, whose basis lists the Basic rows
-abbrev pub vertex_of : List Side → List ℚ → Vertex ℚ
+abbrev pub vertex_of : List Side → List Fraction → Vertex
 vertex_of signs coef = record { basis = record { rows = basic_rows signs }; sides = signs; coef = coef }
 
 -- ---- segments
 
 -- where the number of rows is told, there must be one side per row, and as many dual values as stars
-abbrev pub if_filled : Option ℕ → List Side → List ℚ → List ℚ → Option ⊤
+abbrev pub if_filled : Option ℕ → List Side → List Fraction → List Fraction → Option ⊤
 if_filled None signs lo hi = Some tt
 if_filled (Some rows) signs lo hi = if is_filled rows signs lo hi then Some tt else None
 
 -- the keys of a segment in full
-unfoldable pub segment_members : Option ℕ → Members → Reading (Segment ℚ)
-segment_members rows ms =
-    on_read (field (codes "basic_hi") fractions ms) (λ basic_hi.
-    on_read (field (codes "basic_lo") fractions basic_hi.1) (λ basic_lo.
-    on_read (field (codes "coef") fractions basic_lo.1) (λ coef.
-    on_read (field (codes "hi") fraction coef.1) (λ hi.
-    on_read (field (codes "lo") fraction hi.1) (λ lo.
-    on_read (field (codes "loss_hi") fraction lo.1) (λ loss_hi.
-    on_read (field (codes "loss_lo") fraction loss_hi.1) (λ loss_lo.
+unfoldable pub segment_members : Width → Option ℕ → Members → Reading Segment
+segment_members width rows ms =
+    on_read (field (codes "basic_hi") (ratios width) ms) (λ basic_hi.
+    on_read (field (codes "basic_lo") (ratios width) basic_hi.1) (λ basic_lo.
+    on_read (field (codes "coef") (ratios width) basic_lo.1) (λ coef.
+    on_read (field (codes "hi") (ratio width) coef.1) (λ hi.
+    on_read (field (codes "lo") (ratio width) hi.1) (λ lo.
+    on_read (field (codes "loss_hi") (ratio width) lo.1) (λ loss_hi.
+    on_read (field (codes "loss_lo") (ratio width) loss_hi.1) (λ loss_lo.
     on_read (field (codes "sides") sides loss_lo.1) (λ signs.
     on_read (fitting (codes "sides") (if_filled rows signs.0 basic_lo.0 basic_hi.0)) (λ _.
     on_read (no_more_keys signs.1) (λ _.
@@ -98,8 +107,8 @@ segment_members rows ms =
       loss_hi = loss_hi.0;
     })))))))))))
 
-unfoldable pub segment : Option ℕ → Reader (Segment ℚ)
-segment rows = object_of (segment_members rows)
+unfoldable pub segment : Width → Option ℕ → Reader Segment
+segment width rows = object_of (segment_members width rows)
 
 -- ---- segments that say what changes
 
@@ -112,34 +121,34 @@ unfoldable pub side : Reader Side
 side d = or_shape (option_and_then side_by_name (as_str d))
 
 -- the keys of a move behind its side: a value exactly where the row is on the fit then
-unfoldable pub place_members : Side → Members → Reading (Place ℚ)
-place_members Up ms = on_read (no_more_keys ms) (λ _. Ok Above)
-place_members Down ms = on_read (no_more_keys ms) (λ _. Ok Below)
-place_members Basic ms = on_read (field (codes "value") fraction ms) (λ value. on_read (no_more_keys value.1) (λ _. Ok (On value.0)))
+unfoldable pub place_members : Width → Side → Members → Reading (Place Fraction)
+place_members width Up ms = on_read (no_more_keys ms) (λ _. Ok Above)
+place_members width Down ms = on_read (no_more_keys ms) (λ _. Ok Below)
+place_members width Basic ms = on_read (field (codes "value") (ratio width) ms) (λ value. on_read (no_more_keys value.1) (λ _. Ok (On value.0)))
 
 -- the keys of a move
-unfoldable pub move_members : Members → Reading (Move ℚ)
-move_members ms =
+unfoldable pub move_members : Width → Members → Reading (Move Fraction)
+move_members width ms =
     on_read (field (codes "row") count ms) (λ row.
     on_read (field (codes "side") side row.1) (λ signed.
-    on_read (place_members signed.0 signed.1) (λ place.
+    on_read (place_members width signed.0 signed.1) (λ place.
     Ok (record { row = row.0; place = place }))))
 
-unfoldable pub one_move : Reader (Move ℚ)
-one_move = object_of move_members
+unfoldable pub one_move : Width → Reader (Move Fraction)
+one_move width = object_of (move_members width)
 
 -- the rows on the fit must be as many as the dual values
-abbrev pub if_as_many : List ℕ → List ℚ → Option ⊤
+abbrev pub if_as_many : List ℕ → List Fraction → Option ⊤
 if_as_many rows values = if length rows == length values then Some tt else None
 
 -- the keys of a segment behind another one
-unfoldable pub later_members : Segment ℚ → Members → Reading (Segment ℚ)
-later_members before ms =
-    on_read (field (codes "basic_hi") fractions ms) (λ basic_hi.
-    on_read (field (codes "coef") fractions basic_hi.1) (λ coef.
-    on_read (field (codes "hi") fraction coef.1) (λ hi.
-    on_read (field (codes "loss_hi") fraction hi.1) (λ loss_hi.
-    on_read (field (codes "moves") (list one_move) loss_hi.1) (λ moves.
+unfoldable pub later_members : Width → Segment → Members → Reading Segment
+later_members width before ms =
+    on_read (field (codes "basic_hi") (ratios width) ms) (λ basic_hi.
+    on_read (field (codes "coef") (ratios width) basic_hi.1) (λ coef.
+    on_read (field (codes "hi") (ratio width) coef.1) (λ hi.
+    on_read (field (codes "loss_hi") (ratio width) hi.1) (λ loss_hi.
+    on_read (field (codes "moves") (list (one_move width)) loss_hi.1) (λ moves.
     on_read (fitting (codes "moves") (moved 0 (high_places before) moves.0)) (λ low.
     on_read (fitting (codes "moves") (if_as_many (basic_rows (map side_at low)) basic_hi.0)) (λ _.
     on_read (no_more_keys moves.1) (λ _.
@@ -153,18 +162,33 @@ later_members before ms =
       loss_hi = loss_hi.0;
     })))))))))
 
-unfoldable pub later_segment : Segment ℚ → Reader (Segment ℚ)
-later_segment before = object_of (later_members before)
+unfoldable pub later_segment : Width → Segment → Reader Segment
+later_segment width before = object_of (later_members width before)
 
 -- a segment of a chain: the first in full, and a later one by what changes from the one before it
-abbrev pub linked_segment : ℕ → Option (Segment ℚ) → Reader (Segment ℚ)
-linked_segment rows None = segment (Some rows)
-linked_segment rows (Some before) = later_segment before
+abbrev pub linked_segment : Width → ℕ → Option Segment → Reader Segment
+linked_segment width rows None = segment width (Some rows)
+linked_segment width rows (Some before) = later_segment width before
+
+-- the second item of a list
+abbrev pub second_of : Items → Option Data
+second_of no_items = None
+second_of (item d no_items) = None
+second_of (item d (item e ds)) = Some e
+
+-- the second segment says what changes
+abbrev pub is_linked : Data → Bool
+is_linked d = is_some (option_and_then (get (codes "moves")) (option_and_then second_of (as_array d)))
+
+-- segments of any size, in full, or each but the first by what changes
+abbrev pub either_segments : ℕ → Reader (List Segment)
+either_segments rows d = if is_linked d then linked_list (linked_segment Long rows) d else list (segment Long None) d
 
 -- the segments of a problem with so many rows
-abbrev pub segments : Layout → ℕ → Reader (List (Segment ℚ))
-segments Full rows = list (segment None)
-segments Chained rows = linked_list (linked_segment rows)
+abbrev pub segments : Layout → ℕ → Reader (List Segment)
+segments Full rows = list (segment Narrow None)
+segments Chained rows = linked_list (linked_segment Narrow rows)
+segments Wide rows = either_segments rows
 
 -- ---- intervals
 
@@ -176,52 +200,52 @@ unfoldable pub end_kind : Reader Bool
 end_kind d = or_shape (option_and_then finite_by_name (as_str d))
 
 -- the keys of a finite end behind its kind
-unfoldable pub finite_members : List ℚ → List ℚ → Members → Reading (End ℚ)
-finite_members coef inside ms =
-    on_read (field (codes "outside") fractions ms) (λ outside.
+unfoldable pub finite_members : Width → List Fraction → List Fraction → Members → Reading End
+finite_members width coef inside ms =
+    on_read (field (codes "outside") (ratios width) ms) (λ outside.
     on_read (field (codes "sides") sides outside.1) (λ signs.
-    on_read (field (codes "value") fraction signs.1) (λ value.
+    on_read (field (codes "value") (ratio width) signs.1) (λ value.
     on_read (no_more_keys value.1) (λ _.
     Ok (record { bound = Finite value.0; vertex = vertex_of signs.0 coef; inside = inside; beyond = Outside outside.0 })))))
 
 -- the keys of an infinite end behind its kind
-unfoldable pub infinite_members : List ℚ → List ℚ → Members → Reading (End ℚ)
-infinite_members coef inside ms =
-    on_read (field (codes "ray") fractions ms) (λ ray.
+unfoldable pub infinite_members : Width → List Fraction → List Fraction → Members → Reading End
+infinite_members width coef inside ms =
+    on_read (field (codes "ray") (ratios width) ms) (λ ray.
     on_read (field (codes "sides") sides ray.1) (λ signs.
     on_read (no_more_keys signs.1) (λ _.
     Ok (record { bound = Infinite; vertex = vertex_of signs.0 coef; inside = inside; beyond = Ray ray.0 }))))
 
 -- the keys of an end
-unfoldable pub end_members : Members → Reading (End ℚ)
-end_members ms =
-    on_read (field (codes "coef") fractions ms) (λ coef.
-    on_read (field (codes "inside") fractions coef.1) (λ inside.
+unfoldable pub end_members : Width → Members → Reading End
+end_members width ms =
+    on_read (field (codes "coef") (ratios width) ms) (λ coef.
+    on_read (field (codes "inside") (ratios width) coef.1) (λ inside.
     on_read (field (codes "kind") end_kind inside.1) (λ is_finite.
-    if is_finite.0 then finite_members coef.0 inside.0 is_finite.1 else infinite_members coef.0 inside.0 is_finite.1)))
+    if is_finite.0 then finite_members width coef.0 inside.0 is_finite.1 else infinite_members width coef.0 inside.0 is_finite.1)))
 
-unfoldable pub end_of : Reader (End ℚ)
-end_of = object_of end_members
+unfoldable pub end_of : Width → Reader End
+end_of width = object_of (end_members width)
 
 -- the keys of an interval behind its ends
-unfoldable pub projected_members : ℕ → ℚ → End ℚ → End ℚ → Members → Reading (IntervalProof ℚ)
-projected_members column crit high low ms =
-    on_read (field (codes "projection") fractions ms) (λ projection.
-    on_read (field (codes "tau") fraction projection.1) (λ tau.
+unfoldable pub projected_members : Width → ℕ → Fraction → End → End → Members → Reading IntervalProof
+projected_members width column crit high low ms =
+    on_read (field (codes "projection") (ratios width) ms) (λ projection.
+    on_read (field (codes "tau") (ratio width) projection.1) (λ tau.
     on_read (no_more_keys tau.1) (λ _.
     Ok (record { column = column; tau = tau.0; crit = crit; low = low; high = high; projection = projection.0 }))))
 
 -- the keys of an interval
-unfoldable pub interval_members : Members → Reading (IntervalProof ℚ)
-interval_members ms =
+unfoldable pub interval_members : Width → Members → Reading IntervalProof
+interval_members width ms =
     on_read (field (codes "column") count ms) (λ column.
-    on_read (field (codes "crit") fraction column.1) (λ crit.
-    on_read (field (codes "high") end_of crit.1) (λ high.
-    on_read (field (codes "low") end_of high.1) (λ low.
-    projected_members column.0 crit.0 high.0 low.0 low.1))))
+    on_read (field (codes "crit") (ratio width) column.1) (λ crit.
+    on_read (field (codes "high") (end_of width) crit.1) (λ high.
+    on_read (field (codes "low") (end_of width) high.1) (λ low.
+    projected_members width column.0 crit.0 high.0 low.0 low.1))))
 
-unfoldable pub interval : Reader (IntervalProof ℚ)
-interval = object_of interval_members
+unfoldable pub interval : Width → Reader IntervalProof
+interval width = object_of (interval_members width)
 
 -- ---- the certificate
 
@@ -236,12 +260,18 @@ kind d = or_shape (option_and_then if_certificate (as_str d))
 abbrev pub anything : Reader ⊤
 anything d = Ok tt
 
+-- how wide numbers may be
+abbrev pub width_of : Layout → Width
+width_of Full = Narrow
+width_of Chained = Narrow
+width_of Wide = Long
+
 -- the keys of the top
 unfoldable pub top_members : Layout → Members → Reading Content
 top_members layout ms =
     on_read (field (codes "columns") count ms) (λ columns.
     on_read (field (codes "hi") fraction columns.1) (λ hi.
-    on_read (field (codes "intervals") (list interval) hi.1) (λ intervals.
+    on_read (field (codes "intervals") (list (interval (width_of layout))) hi.1) (λ intervals.
     on_read (field (codes "kind") kind intervals.1) (λ kind.
     on_read (field (codes "lo") fraction kind.1) (λ lo.
     on_read (field (codes "rows") (list row) lo.1) (λ rows.
@@ -272,7 +302,7 @@ version_of d = under (key_step (codes "version")) (or_shape (option_and_then as_
 
 -- the layout that a version has
 abbrev pub layout_of : ℕ → Option Layout
-layout_of n = if n == 1 then Some Full else (if n == 2 then Some Chained else None)
+layout_of n = if n == 1 then Some Full else (if n == 2 then Some Chained else (if n == 3 then Some Wide else None))
 
 abbrev pub or_version : {A : Type 0} → Option A → Reading A
 or_version (Some a) = Ok a

@@ -24,23 +24,23 @@ abbrev pub basic_rows : List Side → List ℕ
 basic_rows = basic_from 0
 
 -- the basis lists the Basic rows
-abbrev pub IsListed : {F : Type 0} → Vertex F → Type 0
+abbrev pub IsListed : Vertex → Type 0
 IsListed v = v.basis.rows ≡ basic_rows v.sides
 
 abbrev pub is_finite : {F : Type 0} → Bound F → Bool
 is_finite (Finite x) = true
 is_finite Infinite = false
 
-abbrev pub is_outside : {F : Type 0} → Beyond F → Bool
+abbrev pub is_outside : Beyond → Bool
 is_outside (Outside xs) = true
 is_outside (Ray xs) = false
 
-abbrev pub IsKeptEnd : {F : Type 0} → End F → Type 0
+abbrev pub IsKeptEnd : End → Type 0
 IsKeptEnd e = IsListed e.vertex × (is_finite e.bound ≡ is_outside e.beyond)
 
-abbrev pub IsKeptSegment : {F : Type 0} → Segment F → Type 0
+abbrev pub IsKeptSegment : Segment → Type 0
 IsKeptSegment s = IsListed s.vertex
 
 -- the column is a number of 32 bits, as its type has it
-abbrev pub IsKeptInterval : {F : Type 0} → IntervalProof F → Type 0
+abbrev pub IsKeptInterval : IntervalProof → Type 0
 IsKeptInterval t = (t.column < 2 ^ 32) × (IsKeptEnd t.low × IsKeptEnd t.high)

@@ -1,5 +1,7 @@
 pub mod Paths
 pub mod Reading
+pub mod Ratios
+pub mod Numbers
 pub mod Kept
 pub mod Keys
 pub mod Contents
@@ -8,3 +10,4 @@ pub mod Certificates
 pub mod Trees
 pub mod Limits
 pub mod Laws
+pub mod Taken

@@ -18,8 +18,8 @@ pub struct Cert {
     pub problem: Problem<Frac128>,
     pub lo: Frac128,
     pub hi: Frac128,
-    pub segments: List<Segment<Frac128>>,
-    pub intervals: List<IntervalProof<Frac128>>,
+    pub segments: List<Segment>,
+    pub intervals: List<IntervalProof>,
     pub ghost listed: { All IsKeptSegment segments } by { Prim.hlevel props },
     pub ghost ended: { All IsKeptInterval intervals } by { Prim.hlevel props },
 }

@@ -1,43 +1,44 @@
 //! Chains of segments: whether segments are one, and how one is read and written.
 
-ghost use Rattle.std.specs.Prelude.{◌≡◌, ◌≢◌, Ok, Err, Some, None, All, length, map, option_map, option_copied, IfOk, IfErr};
+ghost use Rattle.std.specs.Prelude.{◌≡◌, ◌≢◌, Ok, Err, Some, None, All, length, map, option_copied, IfOk, IfErr};
 ghost use Rattle.std.specs.List.{last_or};
 ghost use Rattle.serde_json.specs.View.{view, items_view};
-ghost use Rattle.frac_core.specs.Values.{exact};
 ghost use Rattle.cert_text.specs.Chains.{is_equal, keeps_value, keep_values, follows, follows_any, are_chained, is_chained};
-ghost use Rattle.cert_text.specs.Contents.{exact_place, exact_segment, content};
+ghost use Rattle.cert_text.specs.Contents.{content};
 ghost use Rattle.cert_text.specs.Kept.{IsKeptSegment};
-ghost use Rattle.cert_text.specs.Certificates.{linked_segment, segments};
+ghost use Rattle.cert_text.specs.Certificates.{either_segments, is_linked, linked_segment, segment as full, segments};
 ghost use Rattle.cert_text.specs.Reading.{items_from, linked_list, list};
 ghost use Rattle.cert_text.specs.Trees.{linked_tree, linked_trees, segments_tree};
 
 use crate::cert::Cert;
 use crate::fault::CertFault;
 use crate::later::{high_places, later_segment, later_to_json, low_places};
-use crate::layout::Layout;
+use crate::layout::{Layout, Width};
 use crate::parts::{FromJson, ToJson};
 use crate::path::{under_item, wrong_kind};
 use crate::place::Place;
 use crate::segment::{full_segment, is_filled};
-use frac_core::{Exact, Frac128, List};
+use frac_core::List;
 use loss_model::Segment;
+use ratio::Ratio;
 use serde_json::Value;
 use std::alloc::{AllocError, Global};
 use std::cmp::Ordering;
 
-fn is_equal(x: Frac128, y: Frac128) -> bool
-    ensures { result ≡ is_equal (exact x) (exact y) }
+// Fractions in lowest terms are equal where both parts are.
+fn is_equal(x: &Ratio, y: &Ratio) -> bool
+    ensures { result ≡ is_equal x.now y.now }
 {
-    match x.compare(y) {
+    match x.numerator().compare(y.numerator()) {
         Ordering::Less => false,
-        Ordering::Equal => true,
+        Ordering::Equal => x.denominator().compare(y.denominator()).is_eq(),
         Ordering::Greater => false,
     }
 }
 
 // A row that stays on the fit keeps its dual value.
-fn keeps_value(before: Place<Frac128>, now: Place<Frac128>) -> bool
-    ensures { result ≡ keeps_value (exact_place before) (exact_place now) }
+fn keeps_value(before: &Place<Ratio>, now: &Place<Ratio>) -> bool
+    ensures { result ≡ keeps_value before.now now.now }
 {
     match (before, now) {
         (Place::On(x), Place::On(y)) => is_equal(x, y),
@@ -45,31 +46,27 @@ fn keeps_value(before: Place<Frac128>, now: Place<Frac128>) -> bool
     }
 }
 
-fn keep_values(before: &[Place<Frac128>], now: &[Place<Frac128>]) -> bool
-    ensures { result ≡ keep_values (map exact_place before.now) (map exact_place now.now) }
+fn keep_values(before: &[Place<Ratio>], now: &[Place<Ratio>]) -> bool
+    ensures { result ≡ keep_values before.now now.now }
 {
     for row in 0..before.len() {
         if row >= now.len() {
             return true;
         }
-        if !keeps_value(before[row], now[row]) {
+        if !keeps_value(&before[row], &now[row]) {
             return false;
         }
     }
     true
 }
 
-fn follows(
-    alloc: Global,
-    before: &Segment<Frac128>,
-    segment: &Segment<Frac128>,
-) -> Result<bool, AllocError>
-    ensures { IfOk result (λ b. b ≡ follows (exact_segment before.now) (exact_segment segment.now)) }
+fn follows(alloc: Global, before: &Segment, segment: &Segment) -> Result<bool, AllocError>
+    ensures { IfOk result (λ b. b ≡ follows before.now segment.now) }
 {
-    if !is_equal(before.hi, segment.lo) {
+    if !is_equal(&before.hi, &segment.lo) {
         return Ok(false);
     }
-    if !is_equal(before.loss_hi, segment.loss_lo) {
+    if !is_equal(&before.loss_hi, &segment.loss_lo) {
         return Ok(false);
     }
     let earlier = high_places(alloc, before)?;
@@ -79,10 +76,10 @@ fn follows(
 
 fn follows_any(
     alloc: Global,
-    before: Option<&Segment<Frac128>>,
-    segment: &Segment<Frac128>,
+    before: Option<&Segment>,
+    segment: &Segment,
 ) -> Result<bool, AllocError>
-    ensures { IfOk result (λ b. b ≡ follows_any (option_map exact_segment (option_copied before.entry)) (exact_segment segment.now)) }
+    ensures { IfOk result (λ b. b ≡ follows_any (option_copied before.entry) segment.now) }
 {
     match before {
         Some(before) => follows(alloc, before, segment),
@@ -91,7 +88,7 @@ fn follows_any(
 }
 
 // The last segment.
-fn last<'a>(segments: &'a [Segment<Frac128>]) -> Option<&'a Segment<Frac128>>
+fn last<'a>(segments: &'a [Segment]) -> Option<&'a Segment>
     ensures { option_copied result ≡ last_or None segments.now }
 {
     segments.last()
@@ -118,32 +115,34 @@ pub(crate) fn is_chained(alloc: Global, cert: &Cert) -> Result<bool, AllocError>
 // The segment behind another one, or the first in full.
 fn linked_segment(
     alloc: Global,
+    width: Width,
     rows: usize,
-    before: Option<&Segment<Frac128>>,
+    before: Option<&Segment>,
     value: &Value,
-) -> Result<Segment<Frac128>, CertFault>
-    ensures ok { IfOk result (λ s. linked_segment rows (option_map exact_segment (option_copied before.entry)) (view value.now) ≡ Ok (exact_segment s)) }
+) -> Result<Segment, CertFault>
+    ensures ok { IfOk result (λ s. linked_segment width rows (option_copied before.entry) (view value.now) ≡ Ok s) }
     ensures kept { IfOk result IsKeptSegment }
-    ensures err { IfErr result (λ e. e ≢ CertFault.OutOfMemory → linked_segment rows (option_map exact_segment (option_copied before.entry)) (view value.now) ≡ Err e) }
+    ensures err { IfErr result (λ e. e ≢ CertFault.OutOfMemory → linked_segment width rows (option_copied before.entry) (view value.now) ≡ Err e) }
 {
     match before {
-        Some(before) => later_segment(alloc, before, value),
-        None => full_segment(alloc, Some(rows), value),
+        Some(before) => later_segment(alloc, width, before, value),
+        None => full_segment(alloc, width, Some(rows), value),
     }
 }
 
 fn linked_items(
     alloc: Global,
+    width: Width,
     rows: usize,
     values: &[Value],
-) -> Result<Vec<Segment<Frac128>>, CertFault>
-    ensures ok { IfOk result (λ xs. items_from (linked_segment rows) None 0 (items_view values.now) ≡ Ok (map exact_segment xs.items)) }
+) -> Result<Vec<Segment>, CertFault>
+    ensures ok { IfOk result (λ xs. items_from (linked_segment width rows) None 0 (items_view values.now) ≡ Ok xs.items) }
     ensures kept { IfOk result (λ xs. All IsKeptSegment xs.items) }
-    ensures err { IfErr result (λ e. e ≢ CertFault.OutOfMemory → items_from (linked_segment rows) None 0 (items_view values.now) ≡ Err e) }
+    ensures err { IfErr result (λ e. e ≢ CertFault.OutOfMemory → items_from (linked_segment width rows) None 0 (items_view values.now) ≡ Err e) }
 {
     let mut found = Vec::with_capacity(alloc, values.len())?;
     for i in 0..values.len() {
-        match linked_segment(alloc, rows, last(found.as_slice()), &values[i]) {
+        match linked_segment(alloc, width, rows, last(found.as_slice()), &values[i]) {
             Ok(segment) => found.push(segment)?,
             Err(fault) => return Err(under_item(alloc, i, fault)),
         }
@@ -158,12 +157,13 @@ const MOST_SIDES_MADE: usize = 1 << 31;
 #[tactic(auto, unfolding(crate::specs::Reading::linked_list))]
 fn linked_list(
     alloc: Global,
+    width: Width,
     rows: usize,
     value: &Value,
-) -> Result<List<Segment<Frac128>>, CertFault>
-    ensures ok { IfOk result (λ xs. linked_list (linked_segment rows) (view value.now) ≡ Ok (map exact_segment xs)) }
+) -> Result<List<Segment>, CertFault>
+    ensures ok { IfOk result (λ xs. linked_list (linked_segment width rows) (view value.now) ≡ Ok xs) }
     ensures kept { IfOk result (λ xs. All IsKeptSegment xs) }
-    ensures err { IfErr result (λ e. e ≢ CertFault.OutOfMemory → linked_list (linked_segment rows) (view value.now) ≡ Err e) }
+    ensures err { IfErr result (λ e. e ≢ CertFault.OutOfMemory → linked_list (linked_segment width rows) (view value.now) ≡ Err e) }
 {
     let Some(values) = value.as_array() else {
         return Err(wrong_kind(alloc));
@@ -171,9 +171,44 @@ fn linked_list(
     if rows.saturating_mul(values.len()) > MOST_SIDES_MADE {
         return Err(CertFault::OutOfMemory);
     }
-    match linked_items(alloc, rows, values.as_slice()) {
+    match linked_items(alloc, width, rows, values.as_slice()) {
         Ok(found) => Ok(List::from(found)),
         Err(fault) => Err(fault),
+    }
+}
+
+// The segments, each in full.
+fn full_list(alloc: Global, width: Width, value: &Value) -> Result<List<Segment>, CertFault>
+    ensures ok { IfOk result (λ xs. list (full width None) (view value.now) ≡ Ok xs) }
+    ensures kept { IfOk result (λ xs. All IsKeptSegment xs) }
+    ensures err { IfErr result (λ e. e ≢ CertFault.OutOfMemory → list (full width None) (view value.now) ≡ Err e) }
+{
+    List::from_json(alloc, width, value)
+}
+
+// Whether the second segment says what changes.
+fn is_linked(value: &Value) -> bool
+    ensures { result ≡ is_linked (view value.now) }
+{
+    let Some(values) = value.as_array() else {
+        return false;
+    };
+    if values.len() < 2 {
+        return false;
+    }
+    values[1].get("moves").is_some()
+}
+
+// The segments in either way, of any size.
+fn either_segments(alloc: Global, rows: usize, value: &Value) -> Result<List<Segment>, CertFault>
+    ensures ok { IfOk result (λ xs. either_segments rows (view value.now) ≡ Ok xs) }
+    ensures kept { IfOk result (λ xs. All IsKeptSegment xs) }
+    ensures err { IfErr result (λ e. e ≢ CertFault.OutOfMemory → either_segments rows (view value.now) ≡ Err e) }
+{
+    if is_linked(value) {
+        linked_list(alloc, Width::Long, rows, value)
+    } else {
+        full_list(alloc, Width::Long, value)
     }
 }
 
@@ -183,21 +218,22 @@ pub(crate) fn segments(
     layout: Layout,
     rows: usize,
     value: &Value,
-) -> Result<List<Segment<Frac128>>, CertFault>
-    ensures ok { IfOk result (λ xs. segments layout rows (view value.now) ≡ Ok (map exact_segment xs)) }
+) -> Result<List<Segment>, CertFault>
+    ensures ok { IfOk result (λ xs. segments layout rows (view value.now) ≡ Ok xs) }
     ensures kept { IfOk result (λ xs. All IsKeptSegment xs) }
     ensures err { IfErr result (λ e. e ≢ CertFault.OutOfMemory → segments layout rows (view value.now) ≡ Err e) }
 {
     match layout {
-        Layout::Full => List::from_json(alloc, value),
-        Layout::Chained => linked_list(alloc, rows, value),
+        Layout::Full => full_list(alloc, Width::Narrow, value),
+        Layout::Chained => linked_list(alloc, Width::Narrow, rows, value),
+        Layout::Wide => either_segments(alloc, rows, value),
     }
 }
 
 fn linked_to_json(
     alloc: Global,
-    before: Option<&Segment<Frac128>>,
-    segment: &Segment<Frac128>,
+    before: Option<&Segment>,
+    segment: &Segment,
 ) -> Result<Value, AllocError>
     ensures { IfOk result (λ v. view v ≡ linked_tree (option_copied before.entry) segment.now) }
 {
@@ -207,7 +243,7 @@ fn linked_to_json(
     }
 }
 
-fn chain_to_json(alloc: Global, segments: &[Segment<Frac128>]) -> Result<Vec<Value>, AllocError>
+fn chain_to_json(alloc: Global, segments: &[Segment]) -> Result<Vec<Value>, AllocError>
     ensures { IfOk result (λ vs. map view vs.items ≡ linked_trees None segments.now) }
 {
     let mut found = Vec::with_capacity(alloc, segments.len())?;
@@ -217,20 +253,20 @@ fn chain_to_json(alloc: Global, segments: &[Segment<Frac128>]) -> Result<Vec<Val
     Ok(found)
 }
 
-/// Segments in the layout in which they are written.
+/// Segments as they are written: as a chain, or each in full.
 #[derive(Clone, Copy)]
 pub(crate) struct LaidOut<'a> {
-    pub layout: Layout,
-    pub segments: &'a List<Segment<Frac128>>,
+    pub is_chained: bool,
+    pub segments: &'a List<Segment>,
 }
 
 impl ToJson for LaidOut<'_> {
-    ghost tree = { λ s. segments_tree s.layout s.segments.now };
+    ghost tree = { λ s. segments_tree s.is_chained s.segments.now };
 
     fn to_json(&self, alloc: Global) -> Result<Value, AllocError> {
-        match self.layout {
-            Layout::Full => self.segments.to_json(alloc),
-            Layout::Chained => Ok(Value::Array(chain_to_json(alloc, self.segments.as_slice())?)),
+        if self.is_chained {
+            return Ok(Value::Array(chain_to_json(alloc, self.segments.as_slice())?));
         }
+        self.segments.to_json(alloc)
     }
 }

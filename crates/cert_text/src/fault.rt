@@ -16,9 +16,9 @@ pub enum CertFault {
     /// A key is missing or unknown, or a value is of another kind than a certificate has there, or sides or moves
     /// don't go with the rest of a chain.
     Shape { path: Text },
-    /// A string is no number text, or is one that is too wide.
+    /// A string is no number text, or is one that is too wide or has too many digits.
     Number { path: Text },
-    /// The version is neither 1 nor 2.
+    /// The version is none of 1 to 3.
     Version,
     /// There are more than 128 columns, 16,384 rows, 2^20 segments or 8,192 intervals, or rows times segments
     /// exceed 2^30.

@@ -7,6 +7,7 @@ ghost use Rattle.cert_text.specs.Reading.{or_shape, next, field, no_more_keys};
 ghost use Rattle.cert_text.specs.declared.fault.CertFault.TheVariants.{OutOfMemory};
 
 use crate::fault::CertFault;
+use crate::layout::Width;
 use crate::parts::FromJson;
 use crate::path::{under_key, wrong_key, wrong_kind};
 use serde_json::{Map, Value};
@@ -52,15 +53,16 @@ pub(crate) fn next<'a>(
 #[tactic(auto, unfolding(crate::specs::Reading::field))]
 pub(crate) fn field<T: FromJson>(
     alloc: Global,
+    width: Width,
     key: &str,
     rest: &mut Iter<'_, String, Value>,
 ) -> Result<T, CertFault>
-    ensures ok { IfOk result (λ part. field key.now T.reader (members_view rest.old) ≡ Ok (T.content part, members_view rest.new)) }
+    ensures ok { IfOk result (λ part. field key.now (T.reader width) (members_view rest.old) ≡ Ok (T.content part, members_view rest.new)) }
     ensures kept { IfOk result (λ part. T.IsKept part) }
-    ensures err { IfErr result (λ e. e ≢ OutOfMemory → field key.now T.reader (members_view rest.old) ≡ Err e) }
+    ensures err { IfErr result (λ e. e ≢ OutOfMemory → field key.now (T.reader width) (members_view rest.old) ≡ Err e) }
 {
     let value = next(alloc, key, rest)?;
-    match T::from_json(alloc, value) {
+    match T::from_json(alloc, width, value) {
         Ok(part) => Ok(part),
         Err(fault) => Err(under_key(alloc, key, fault)),
     }

@@ -5,8 +5,10 @@ ghost use Rattle.serde_json.specs.Data.{Data, string, put as with_member};
 ghost use Rattle.serde_json.specs.View.{view, items_view, members_view};
 ghost use Rattle.cert_text.specs.Reading.{Reading, items_from, linked_list, list};
 ghost use Rattle.cert_text.specs.Trees.{list_tree};
+ghost use Rattle.cert_text.specs.declared.layout.Width.{Width as width_type};
 
 use crate::fault::CertFault;
+use crate::layout::Width;
 use crate::path::{under_item, wrong_kind};
 use frac_core::List;
 use serde_json::{Map, Value};
@@ -19,14 +21,14 @@ pub(crate) trait FromJson: Sized + Drop {
 
     ghost content: { Self → Self.Content };
 
-    ghost reader: { Data → Reading Self.Content };
+    ghost reader: { width_type → Data → Reading Self.Content };
 
     ghost IsKept: { Self → Type 0 } = { λ _. ⊤ };
 
-    fn from_json(alloc: Global, value: &Value) -> Result<Self, CertFault>
-        ensures ok { IfOk result (λ part. reader (view value.now) ≡ Ok (content part)) }
+    fn from_json(alloc: Global, width: Width, value: &Value) -> Result<Self, CertFault>
+        ensures ok { IfOk result (λ part. reader width (view value.now) ≡ Ok (content part)) }
         ensures kept { IfOk result (λ part. IsKept part) }
-        ensures err { IfErr result (λ e. e ≢ CertFault.OutOfMemory → reader (view value.now) ≡ Err e) };
+        ensures err { IfErr result (λ e. e ≢ CertFault.OutOfMemory → reader width (view value.now) ≡ Err e) };
 }
 
 /// A part that is written as a value.
@@ -66,14 +68,14 @@ pub(crate) fn put<T: ToJson>(
     serde_json::put(object, alloc, key, value)
 }
 
-fn items<T: FromJson>(alloc: Global, values: &[Value]) -> Result<Vec<T>, CertFault>
-    ensures ok { IfOk result (λ xs. items_from (λ before. T.reader) None 0 (items_view values.now) ≡ Ok (map T.content xs.items)) }
+fn items<T: FromJson>(alloc: Global, width: Width, values: &[Value]) -> Result<Vec<T>, CertFault>
+    ensures ok { IfOk result (λ xs. items_from (λ before. T.reader width) None 0 (items_view values.now) ≡ Ok (map T.content xs.items)) }
     ensures kept { IfOk result (λ xs. All T.IsKept xs.items) }
-    ensures err { IfErr result (λ e. e ≢ CertFault.OutOfMemory → items_from (λ before. T.reader) None 0 (items_view values.now) ≡ Err e) }
+    ensures err { IfErr result (λ e. e ≢ CertFault.OutOfMemory → items_from (λ before. T.reader width) None 0 (items_view values.now) ≡ Err e) }
 {
     let mut found = Vec::with_capacity(alloc, values.len())?;
     for i in 0..values.len() {
-        match T::from_json(alloc, &values[i]) {
+        match T::from_json(alloc, width, &values[i]) {
             Ok(part) => found.push(part)?,
             Err(fault) => return Err(under_item(alloc, i, fault)),
         }
@@ -86,16 +88,16 @@ impl<T: FromJson> FromJson for List<T> {
 
     ghost content = { λ xs. map T.content xs };
 
-    ghost reader = { list T.reader };
+    ghost reader = { λ width. list (T.reader width) };
 
     ghost IsKept = { λ xs. All T.IsKept xs };
 
     #[tactic(auto, unfolding(crate::specs::Reading::linked_list))]
-    fn from_json(alloc: Global, value: &Value) -> Result<List<T>, CertFault> {
+    fn from_json(alloc: Global, width: Width, value: &Value) -> Result<List<T>, CertFault> {
         let Some(values) = value.as_array() else {
             return Err(wrong_kind(alloc));
         };
-        match items(alloc, values.as_slice()) {
+        match items(alloc, width, values.as_slice()) {
             Ok(found) => Ok(List::from(found)),
             Err(fault) => Err(fault),
         }

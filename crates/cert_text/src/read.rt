@@ -4,13 +4,12 @@ ghost use Rattle.std.specs.Prelude.{◌≡◌, ◌≢◌, Ok, Err, Some, None, A
 ghost use Rattle.serde_json.specs.Find.{get, as_number, as_u64};
 ghost use Rattle.serde_json.specs.View.{view, members_view};
 ghost use Rattle.loss_model.specs.Values.{exact_row};
-ghost use Rattle.cert_text.specs.Certificates.{kind, anything, segments, top_members, within_limits, version_of, layout_of, or_version, cert_of_data, json_of, cert_of};
-ghost use Rattle.cert_text.specs.Contents.{Content, exact_segment, content};
+ghost use Rattle.cert_text.specs.Certificates.{kind, anything, interval, segments, top_members, within_limits, version_of, layout_of, or_version, cert_of_data, json_of, cert_of};
+ghost use Rattle.cert_text.specs.Contents.{Content, content};
 ghost use Rattle.cert_text.specs.Kept.{IsKeptInterval, IsKeptSegment};
 ghost use Rattle.cert_text.specs.Keys.{top_behind, top_with};
-ghost use Rattle.cert_text.specs.Reading.{field};
+ghost use Rattle.cert_text.specs.Reading.{field, list};
 ghost use Rattle.cert_text.specs.Limits.{IsWithinLimits};
-ghost use Rattle.cert_text.specs.declared.layout.Layout.{Layout as layout_type};
 ghost use Rattle.cert_text.specs.declared.read.TopKeys.{TopKeys as keys_type};
 ghost use Rattle.cert_text.specs.declared.fault.CertFault.TheVariants.{NotJson};
 
@@ -18,7 +17,7 @@ use crate::cert::Cert;
 use crate::chain::segments;
 use crate::fault::CertFault;
 use crate::keys::{field, members, next, no_more_keys};
-use crate::layout::Layout;
+use crate::layout::{Layout, Width};
 use crate::parts::FromJson;
 use crate::path::{under_key, wrong_kind};
 use frac_core::{Frac128, List, MOST_COLUMNS, MOST_ROWS};
@@ -36,10 +35,10 @@ impl FromJson for Kind {
 
     ghost content = { λ _. tt };
 
-    ghost reader = { kind };
+    ghost reader = { λ _. kind };
 
     #[tactic(auto, unfolding(crate::specs::Certificates::kind))]
-    fn from_json(alloc: Global, value: &Value) -> Result<Kind, CertFault> {
+    fn from_json(alloc: Global, _width: Width, value: &Value) -> Result<Kind, CertFault> {
         let Some(name) = value.as_str() else {
             return Err(wrong_kind(alloc));
         };
@@ -60,9 +59,9 @@ impl FromJson for AnyValue {
 
     ghost content = { λ _. tt };
 
-    ghost reader = { anything };
+    ghost reader = { λ _. anything };
 
-    fn from_json(_alloc: Global, _value: &Value) -> Result<AnyValue, CertFault> {
+    fn from_json(_alloc: Global, _width: Width, _value: &Value) -> Result<AnyValue, CertFault> {
         Ok(AnyValue)
     }
 }
@@ -73,9 +72,9 @@ fn segments_field(
     layout: Layout,
     rows: usize,
     rest: &mut Iter<'_, String, Value>,
-) -> Result<List<Segment<Frac128>>, CertFault>
+) -> Result<List<Segment>, CertFault>
     ensures ok { IfOk result (λ xs. field (codes "segments") (segments layout rows) (members_view rest.old)
-        ≡ Ok (map exact_segment xs, members_view rest.new)) }
+        ≡ Ok (xs, members_view rest.new)) }
     ensures kept { IfOk result (λ xs. All IsKeptSegment xs) }
     ensures err { IfErr result (λ e. e ≢ CertFault.OutOfMemory → field (codes "segments") (segments layout rows) (members_view rest.old) ≡ Err e) }
 {
@@ -86,29 +85,46 @@ fn segments_field(
     }
 }
 
+// The intervals, with numbers of this width.
+fn intervals_field(
+    alloc: Global,
+    width: Width,
+    rest: &mut Iter<'_, String, Value>,
+) -> Result<List<IntervalProof>, CertFault>
+    ensures ok { IfOk result (λ ts. field (codes "intervals") (list (interval width)) (members_view rest.old) ≡ Ok (ts, members_view rest.new)) }
+    ensures kept { IfOk result (λ ts. All IsKeptInterval ts) }
+    ensures err { IfErr result (λ e. e ≢ CertFault.OutOfMemory → field (codes "intervals") (list (interval width)) (members_view rest.old) ≡ Err e) }
+{
+    field(alloc, width, "intervals", rest)
+}
+
 // The keys of the top before the segments.
 #[derive(Drop)]
 struct TopKeys {
     columns: u32,
     hi: Frac128,
-    intervals: List<IntervalProof<Frac128>>,
+    intervals: List<IntervalProof>,
     lo: Frac128,
     rows: List<Row<Frac128>>,
 }
 
 #[tactic(auto, unfolding(crate::specs::Certificates::top_members))]
-fn top_keys(alloc: Global, rest: &mut Iter<'_, String, Value>) -> Result<TopKeys, CertFault>
-    ensures ok { IfOk result (λ k. (layout : layout_type) → top_members layout (members_view rest.old)
+fn top_keys(
+    alloc: Global,
+    layout: Layout,
+    rest: &mut Iter<'_, String, Value>,
+) -> Result<TopKeys, CertFault>
+    ensures ok { IfOk result (λ k. top_members layout (members_view rest.old)
         ≡ top_behind layout (length (map exact_row k.rows)) k (members_view rest.new)) }
     ensures kept { IfOk result (λ k. All IsKeptInterval k.intervals) }
-    ensures err { IfErr result (λ e. e ≢ CertFault.OutOfMemory → (layout : layout_type) → top_members layout (members_view rest.old) ≡ Err e) }
+    ensures err { IfErr result (λ e. e ≢ CertFault.OutOfMemory → top_members layout (members_view rest.old) ≡ Err e) }
 {
-    let columns = field(alloc, "columns", rest)?;
-    let hi = field(alloc, "hi", rest)?;
-    let intervals = field(alloc, "intervals", rest)?;
-    let _kind: Kind = field(alloc, "kind", rest)?;
-    let lo = field(alloc, "lo", rest)?;
-    let rows = field(alloc, "rows", rest)?;
+    let columns = field(alloc, Width::Narrow, "columns", rest)?;
+    let hi = field(alloc, Width::Narrow, "hi", rest)?;
+    let intervals = intervals_field(alloc, layout.width(), rest)?;
+    let _kind: Kind = field(alloc, Width::Narrow, "kind", rest)?;
+    let lo = field(alloc, Width::Narrow, "lo", rest)?;
+    let rows = field(alloc, Width::Narrow, "rows", rest)?;
     Ok(TopKeys {
         columns,
         hi,
@@ -124,13 +140,13 @@ fn last_segments(
     layout: Layout,
     rows: usize,
     rest: &mut Iter<'_, String, Value>,
-) -> Result<List<Segment<Frac128>>, CertFault>
-    ensures ok { IfOk result (λ xs. (k : keys_type) → top_behind layout rows k (members_view rest.old) ≡ Ok (top_with k (map exact_segment xs))) }
+) -> Result<List<Segment>, CertFault>
+    ensures ok { IfOk result (λ xs. (k : keys_type) → top_behind layout rows k (members_view rest.old) ≡ Ok (top_with k xs)) }
     ensures kept { IfOk result (λ xs. All IsKeptSegment xs) }
     ensures err { IfErr result (λ e. e ≢ CertFault.OutOfMemory → (k : keys_type) → top_behind layout rows k (members_view rest.old) ≡ Err e) }
 {
     let segments = segments_field(alloc, layout, rows, rest)?;
-    let _version: AnyValue = field(alloc, "version", rest)?;
+    let _version: AnyValue = field(alloc, Width::Narrow, "version", rest)?;
     no_more_keys(alloc, rest)?;
     Ok(segments)
 }
@@ -143,7 +159,7 @@ fn top_of(
     ensures ok { IfOk result (λ cert. top_members layout (members_view rest.old) ≡ Ok (content cert)) }
     ensures err { IfErr result (λ e. e ≢ CertFault.OutOfMemory → top_members layout (members_view rest.old) ≡ Err e) }
 {
-    let keys = top_keys(alloc, rest)?;
+    let keys = top_keys(alloc, layout, rest)?;
     match last_segments(alloc, layout, keys.rows.as_slice().len(), rest) {
         Ok(segments) => Ok(Cert {
             problem: Problem {
@@ -209,6 +225,7 @@ fn layout_of(version: u64) -> Result<Layout, CertFault>
     match version {
         1 => Ok(Layout::Full),
         2 => Ok(Layout::Chained),
+        3 => Ok(Layout::Wide),
         _ => Err(CertFault::Version),
     }
 }
@@ -253,10 +270,13 @@ fn parse(alloc: Global, bytes: &[u8]) -> Result<Value, CertFault>
 /// The faults are looked for in this order. `NotJson` comes exactly where the bytes are no JSON in UTF-8, by
 /// `serde_json`, which takes at most 127 levels of nesting and the last value of a key that stands twice.
 /// `Shape` comes with an empty path where the top is no object, and with the path `/version` where it has no
-/// unsigned number there; `Version` where that is neither 1 nor 2. Then every object is gone through key by
+/// unsigned number there; `Version` where that is none of 1 to 3. Then every object is gone through key by
 /// key, in the order of their bytes, and every list item by item, and what a key has comes before the next key:
 /// `Shape` comes at the first key that is missing or unknown or whose value is of another kind, and `Number` at
-/// the first string that is no number text of `frac_core`, or too wide. In version 2 `Shape` comes too at the
+/// the first string that is no number text of `frac_core`, or too wide. In version 3 a number of the segments and the
+/// intervals is one of digits, with a sign in front or without, or two with a stroke between them, the second of
+/// which isn't 0, and of no more than 65,536 digits each; and the segments stand as in version 2 where the second has
+/// `moves`, else as in version 1. In version 2 `Shape` comes too at the
 /// `sides` of the first segment, where they aren't one per row or their stars aren't as many as the dual values
 /// of either end; and at the `moves` of a later one, where a move names a row that isn't there, a row that isn't
 /// above that of the move before it, or the side that the row has already, or where the stars afterwards aren't

@@ -10,6 +10,7 @@ ghost use Rattle.cert_text.specs.Trees.{row_tree};
 
 use crate::fault::CertFault;
 use crate::keys::{field, members, no_more_keys};
+use crate::layout::Width;
 use crate::parts::{FromJson, ToJson, put};
 use frac_core::Frac128;
 use loss_model::Row;
@@ -22,12 +23,12 @@ fn row_of(alloc: Global, rest: &mut Iter<'_, String, Value>) -> Result<Row<Frac1
     ensures ok { IfOk result (λ row. row_members (members_view rest.old) ≡ Ok (exact_row row)) }
     ensures err { IfErr result (λ e. e ≢ CertFault.OutOfMemory → row_members (members_view rest.old) ≡ Err e) }
 {
-    let down0 = field(alloc, "down0", rest)?;
-    let down1 = field(alloc, "down1", rest)?;
-    let up0 = field(alloc, "up0", rest)?;
-    let up1 = field(alloc, "up1", rest)?;
-    let x = field(alloc, "x", rest)?;
-    let y = field(alloc, "y", rest)?;
+    let down0 = field(alloc, Width::Narrow, "down0", rest)?;
+    let down1 = field(alloc, Width::Narrow, "down1", rest)?;
+    let up0 = field(alloc, Width::Narrow, "up0", rest)?;
+    let up1 = field(alloc, Width::Narrow, "up1", rest)?;
+    let x = field(alloc, Width::Narrow, "x", rest)?;
+    let y = field(alloc, Width::Narrow, "y", rest)?;
     no_more_keys(alloc, rest)?;
     Ok(Row {
         x,
@@ -44,10 +45,10 @@ impl FromJson for Row<Frac128> {
 
     ghost content = { exact_row };
 
-    ghost reader = { row };
+    ghost reader = { λ _. row };
 
     #[tactic(auto, unfolding(crate::specs::Certificates::row))]
-    fn from_json(alloc: Global, value: &Value) -> Result<Row<Frac128>, CertFault> {
+    fn from_json(alloc: Global, _width: Width, value: &Value) -> Result<Row<Frac128>, CertFault> {
         let found = members(alloc, value)?;
         row_of(alloc, &mut found.iter())
     }

@@ -1,68 +1,74 @@
 //! Segments of a process.
 
-ghost use Rattle.std.specs.Prelude.{◌≡◌, ◌≢◌, ℕ, Option, Ok, Err, Some, None, map, if◌then◌else◌, IfOk, IfErr};
-ghost use Rattle.rational_laws.specs.Rational.{ℚ};
+ghost use Rattle.std.specs.Prelude.{◌≡◌, ◌≢◌, ℕ, Option, Ok, Err, Some, None, if◌then◌else◌, IfOk, IfErr};
 ghost use Rattle.loss_model.specs.declared.process.Segment.{Segment as segment_type};
+ghost use Rattle.rational_laws.specs.Fraction.{Fraction};
+ghost use Rattle.serde_json.specs.Data.{Members};
 ghost use Rattle.serde_json.specs.View.{view, members_view};
-ghost use Rattle.frac_core.specs.Values.{exact};
+ghost use Rattle.cert_text.specs.Reading.{Reading};
 ghost use Rattle.cert_text.specs.Chains.{is_filled};
-ghost use Rattle.cert_text.specs.Contents.{exact_segment};
 ghost use Rattle.cert_text.specs.Kept.{IsKeptSegment};
 ghost use Rattle.cert_text.specs.Certificates.{if_filled, segment_members, segment};
-ghost use Rattle.cert_text.specs.Keys.{segment_behind, segment_behind_front, joined_keys};
+ghost use Rattle.cert_text.specs.Keys.{segment_behind, segment_behind_front, segment_from, two_ratios};
 ghost use Rattle.cert_text.specs.declared.segment.FrontKeys.{FrontKeys};
 ghost use Rattle.cert_text.specs.Trees.{segment_tree};
 
 use crate::fault::CertFault;
 use crate::keys::{field, members, no_more_keys};
+use crate::layout::Width;
+use crate::numbers::ratios;
 use crate::parts::{FromJson, ToJson, put};
 use crate::path::{under_key, wrong_kind};
 use crate::vertex::{Sides, Signs, vertex};
-use frac_core::{Frac128, List};
+use frac_core::{List, OutOfMemory};
 use loss_model::Segment;
+use ratio::Ratio;
 use serde_json::{Map, Value};
 use std::alloc::{AllocError, Global};
 use std::collections::btree_map::Iter;
 
-// The keys of a segment in full.
+// The keys of a segment in full, in two parts, so that the lists are let go once, and not behind each key.
 #[derive(Drop)]
 struct SegmentKeys {
-    basic_hi: List<Frac128>,
-    basic_lo: List<Frac128>,
-    coef: List<Frac128>,
-    hi: Frac128,
-    lo: Frac128,
-    loss_hi: Frac128,
-    loss_lo: Frac128,
-    sides: Sides,
+    front: FrontKeys,
+    back: BackKeys,
 }
 
 // The first of them, which are lists.
 #[derive(Drop)]
 struct FrontKeys {
-    basic_hi: List<Frac128>,
-    basic_lo: List<Frac128>,
-    coef: List<Frac128>,
+    basic_hi: List<Ratio>,
+    basic_lo: List<Ratio>,
+    coef: List<Ratio>,
 }
 
-// Those behind them.
+// Two numbers.
+#[derive(Drop)]
+struct Two {
+    first: Ratio,
+    second: Ratio,
+}
+
+// Those behind them: the quantiles and the losses at the high and the low end, and the sides.
 #[derive(Drop)]
 struct BackKeys {
-    hi: Frac128,
-    lo: Frac128,
-    loss_hi: Frac128,
-    loss_lo: Frac128,
+    ends: Two,
+    losses: Two,
     sides: Sides,
 }
 
 #[tactic(auto, unfolding(crate::specs::Certificates::segment_members))]
-fn front_keys(alloc: Global, rest: &mut Iter<'_, String, Value>) -> Result<FrontKeys, CertFault>
-    ensures ok { IfOk result (λ k. (rows : Option ℕ) → segment_members rows (members_view rest.old) ≡ segment_behind_front rows k (members_view rest.new)) }
-    ensures err { IfErr result (λ e. e ≢ CertFault.OutOfMemory → (rows : Option ℕ) → segment_members rows (members_view rest.old) ≡ Err e) }
+fn front_keys(
+    alloc: Global,
+    width: Width,
+    rest: &mut Iter<'_, String, Value>,
+) -> Result<FrontKeys, CertFault>
+    ensures ok { IfOk result (λ k. (rows : Option ℕ) → segment_members width rows (members_view rest.old) ≡ segment_behind_front width rows k (members_view rest.new)) }
+    ensures err { IfErr result (λ e. e ≢ CertFault.OutOfMemory → (rows : Option ℕ) → segment_members width rows (members_view rest.old) ≡ Err e) }
 {
-    let basic_hi = field(alloc, "basic_hi", rest)?;
-    let basic_lo = field(alloc, "basic_lo", rest)?;
-    let coef = field(alloc, "coef", rest)?;
+    let basic_hi = ratios(alloc, width, "basic_hi", rest)?;
+    let basic_lo = ratios(alloc, width, "basic_lo", rest)?;
+    let coef = ratios(alloc, width, "coef", rest)?;
     Ok(FrontKeys {
         basic_hi,
         basic_lo,
@@ -70,41 +76,67 @@ fn front_keys(alloc: Global, rest: &mut Iter<'_, String, Value>) -> Result<Front
     })
 }
 
-fn back_keys(alloc: Global, rest: &mut Iter<'_, String, Value>) -> Result<BackKeys, CertFault>
-    ensures ok { IfOk result (λ k. (rows : Option ℕ) → (front : FrontKeys) → segment_behind_front rows front (members_view rest.old) ≡ segment_behind rows (joined_keys front k) (members_view rest.new)) }
-    ensures err { IfErr result (λ e. e ≢ CertFault.OutOfMemory → (rows : Option ℕ) → (front : FrontKeys) → segment_behind_front rows front (members_view rest.old) ≡ Err e) }
+// The numbers that the next two keys have, which must be these.
+fn two_ratios(
+    alloc: Global,
+    width: Width,
+    first: &str,
+    second: &str,
+    rest: &mut Iter<'_, String, Value>,
+) -> Result<Two, CertFault>
+    ensures ok { IfOk result (λ two. (behind : Fraction → Fraction → Members → Reading segment_type) → two_ratios width first.now second.now (members_view rest.old) behind ≡ behind two.first two.second (members_view rest.new)) }
+    ensures err { IfErr result (λ e. e ≢ CertFault.OutOfMemory → (behind : Fraction → Fraction → Members → Reading segment_type) → two_ratios width first.now second.now (members_view rest.old) behind ≡ Err e) }
 {
-    let hi = field(alloc, "hi", rest)?;
-    let lo = field(alloc, "lo", rest)?;
-    let loss_hi = field(alloc, "loss_hi", rest)?;
-    let loss_lo = field(alloc, "loss_lo", rest)?;
-    let sides = field(alloc, "sides", rest)?;
-    Ok(BackKeys {
-        hi,
-        lo,
-        loss_hi,
-        loss_lo,
-        sides,
-    })
+    let first: Ratio = field(alloc, width, first, rest)?;
+    match field(alloc, width, second, rest) {
+        Ok(second) => Ok(Two { first, second }),
+        Err(fault) => {
+            drop(first);
+            Err(fault)
+        }
+    }
 }
 
-// Read in two parts, so that the lists are let go once, and not behind each key.
-fn segment_keys(alloc: Global, rest: &mut Iter<'_, String, Value>) -> Result<SegmentKeys, CertFault>
-    ensures ok { IfOk result (λ k. (rows : Option ℕ) → segment_members rows (members_view rest.old) ≡ segment_behind rows k (members_view rest.new)) }
-    ensures err { IfErr result (λ e. e ≢ CertFault.OutOfMemory → (rows : Option ℕ) → segment_members rows (members_view rest.old) ≡ Err e) }
+fn back_keys(
+    alloc: Global,
+    width: Width,
+    rest: &mut Iter<'_, String, Value>,
+) -> Result<BackKeys, CertFault>
+    ensures ok { IfOk result (λ k. (rows : Option ℕ) → (front : FrontKeys) → segment_behind_front width rows front (members_view rest.old) ≡ segment_behind rows (record { front = front; back = k }) (members_view rest.new)) }
+    ensures err { IfErr result (λ e. e ≢ CertFault.OutOfMemory → (rows : Option ℕ) → (front : FrontKeys) → segment_behind_front width rows front (members_view rest.old) ≡ Err e) }
 {
-    let front = front_keys(alloc, rest)?;
-    match back_keys(alloc, rest) {
-        Ok(back) => Ok(SegmentKeys {
-            basic_hi: front.basic_hi,
-            basic_lo: front.basic_lo,
-            coef: front.coef,
-            hi: back.hi,
-            lo: back.lo,
-            loss_hi: back.loss_hi,
-            loss_lo: back.loss_lo,
-            sides: back.sides,
-        }),
+    let ends = two_ratios(alloc, width, "hi", "lo", rest)?;
+    match two_ratios(alloc, width, "loss_hi", "loss_lo", rest) {
+        Ok(losses) => match field(alloc, width, "sides", rest) {
+            Ok(sides) => Ok(BackKeys {
+                ends,
+                losses,
+                sides,
+            }),
+            Err(fault) => {
+                drop(ends);
+                drop(losses);
+                Err(fault)
+            }
+        },
+        Err(fault) => {
+            drop(ends);
+            Err(fault)
+        }
+    }
+}
+
+fn segment_keys(
+    alloc: Global,
+    width: Width,
+    rest: &mut Iter<'_, String, Value>,
+) -> Result<SegmentKeys, CertFault>
+    ensures ok { IfOk result (λ k. (rows : Option ℕ) → segment_members width rows (members_view rest.old) ≡ segment_behind rows k (members_view rest.new)) }
+    ensures err { IfErr result (λ e. e ≢ CertFault.OutOfMemory → (rows : Option ℕ) → segment_members width rows (members_view rest.old) ≡ Err e) }
+{
+    let front = front_keys(alloc, width, rest)?;
+    match back_keys(alloc, width, rest) {
+        Ok(back) => Ok(SegmentKeys { front, back }),
         Err(fault) => {
             drop(front);
             Err(fault)
@@ -112,25 +144,56 @@ fn segment_keys(alloc: Global, rest: &mut Iter<'_, String, Value>) -> Result<Seg
     }
 }
 
+impl SegmentKeys {
+    // The segment of these keys.
+    fn segment(self, alloc: Global) -> Result<Segment, OutOfMemory>
+        ensures segment { IfOk result (λ s. s ≡ segment_from self) }
+        ensures kept { IfOk result IsKeptSegment }
+    {
+        let SegmentKeys { front, back } = self;
+        let FrontKeys {
+            basic_hi,
+            basic_lo,
+            coef,
+        } = front;
+        let BackKeys {
+            ends,
+            losses,
+            sides,
+        } = back;
+        match vertex(alloc, sides, coef) {
+            Ok(vertex) => Ok(Segment {
+                lo: ends.second,
+                hi: ends.first,
+                vertex,
+                basic_lo,
+                basic_hi,
+                loss_lo: losses.second,
+                loss_hi: losses.first,
+            }),
+            Err(OutOfMemory) => {
+                drop(basic_hi);
+                drop(basic_lo);
+                drop(ends);
+                drop(losses);
+                Err(OutOfMemory)
+            }
+        }
+    }
+}
+
 fn segment_of(
     alloc: Global,
+    width: Width,
     rows: Option<usize>,
     rest: &mut Iter<'_, String, Value>,
-) -> Result<Segment<Frac128>, CertFault>
-    ensures ok { IfOk result (λ segment. segment_members rows (members_view rest.old) ≡ Ok (exact_segment segment)) }
+) -> Result<Segment, CertFault>
+    ensures ok { IfOk result (λ segment. segment_members width rows (members_view rest.old) ≡ Ok segment) }
     ensures kept { IfOk result IsKeptSegment }
-    ensures err { IfErr result (λ e. e ≢ CertFault.OutOfMemory → segment_members rows (members_view rest.old) ≡ Err e) }
+    ensures err { IfErr result (λ e. e ≢ CertFault.OutOfMemory → segment_members width rows (members_view rest.old) ≡ Err e) }
 {
-    let keys = segment_keys(alloc, rest)?;
-    let segment = Segment {
-        lo: keys.lo,
-        hi: keys.hi,
-        vertex: vertex(alloc, keys.sides, keys.coef)?,
-        basic_lo: keys.basic_lo,
-        basic_hi: keys.basic_hi,
-        loss_lo: keys.loss_lo,
-        loss_hi: keys.loss_hi,
-    };
+    let keys = segment_keys(alloc, width, rest)?;
+    let segment = keys.segment(alloc)?;
     if !is_filled_if_told(rows, &segment) {
         drop(segment);
         return Err(under_key(alloc, "sides", wrong_kind(alloc)));
@@ -145,7 +208,7 @@ fn segment_of(
 }
 
 /// One side per row, and as many dual values at either end as rows that are basic.
-pub(crate) fn is_filled(rows: usize, segment: &Segment<Frac128>) -> bool
+pub(crate) fn is_filled(rows: usize, segment: &Segment) -> bool
     requires { IsKeptSegment segment.now }
     ensures { result ≡ is_filled rows segment.now.vertex.sides segment.now.basic_lo segment.now.basic_hi }
 {
@@ -160,9 +223,9 @@ pub(crate) fn is_filled(rows: usize, segment: &Segment<Frac128>) -> bool
 }
 
 // The same where the number of rows is told.
-fn is_filled_if_told(rows: Option<usize>, segment: &Segment<Frac128>) -> bool
+fn is_filled_if_told(rows: Option<usize>, segment: &Segment) -> bool
     requires { IsKeptSegment segment.now }
-    ensures { if_filled rows segment.now.vertex.sides (map exact segment.now.basic_lo) (map exact segment.now.basic_hi) ≡ (if result then Some tt else None) }
+    ensures { if_filled rows segment.now.vertex.sides segment.now.basic_lo segment.now.basic_hi ≡ (if result then Some tt else None) }
 {
     match rows {
         Some(rows) => is_filled(rows, segment),
@@ -174,32 +237,33 @@ fn is_filled_if_told(rows: Option<usize>, segment: &Segment<Frac128>) -> bool
 #[tactic(auto, unfolding(crate::specs::Certificates::segment))]
 pub(crate) fn full_segment(
     alloc: Global,
+    width: Width,
     rows: Option<usize>,
     value: &Value,
-) -> Result<Segment<Frac128>, CertFault>
-    ensures ok { IfOk result (λ s. segment rows (view value.now) ≡ Ok (exact_segment s)) }
+) -> Result<Segment, CertFault>
+    ensures ok { IfOk result (λ s. segment width rows (view value.now) ≡ Ok s) }
     ensures kept { IfOk result IsKeptSegment }
-    ensures err { IfErr result (λ e. e ≢ CertFault.OutOfMemory → segment rows (view value.now) ≡ Err e) }
+    ensures err { IfErr result (λ e. e ≢ CertFault.OutOfMemory → segment width rows (view value.now) ≡ Err e) }
 {
     let found = members(alloc, value)?;
-    segment_of(alloc, rows, &mut found.iter())
+    segment_of(alloc, width, rows, &mut found.iter())
 }
 
-impl FromJson for Segment<Frac128> {
-    ghost Content = { segment_type ℚ };
+impl FromJson for Segment {
+    ghost Content = { segment_type };
 
-    ghost content = { exact_segment };
+    ghost content = { λ s. s };
 
-    ghost reader = { segment None };
+    ghost reader = { λ width. segment width None };
 
     ghost IsKept = { IsKeptSegment };
 
-    fn from_json(alloc: Global, value: &Value) -> Result<Segment<Frac128>, CertFault> {
-        full_segment(alloc, None, value)
+    fn from_json(alloc: Global, width: Width, value: &Value) -> Result<Segment, CertFault> {
+        full_segment(alloc, width, None, value)
     }
 }
 
-impl ToJson for Segment<Frac128> {
+impl ToJson for Segment {
     ghost tree = { segment_tree };
 
     #[tactic(auto, unfolding(crate::specs::Trees::segment_tree))]

@@ -8,10 +8,12 @@ ghost use Rattle.cert_text.specs.Certificates.{sides, sides_of, side_of};
 ghost use Rattle.cert_text.specs.Trees.{sign_of, sides_tree};
 
 use crate::fault::CertFault;
+use crate::layout::Width;
 use crate::parts::{FromJson, ToJson};
 use crate::path::wrong_kind;
-use frac_core::{Frac128, List, OutOfMemory};
+use frac_core::{List, OutOfMemory};
 use loss_model::{Basis, Side, Vertex};
+use ratio::Ratio;
 use serde_json::Value;
 use std::alloc::{AllocError, Global};
 
@@ -59,10 +61,10 @@ impl FromJson for Sides {
 
     ghost content = { λ s. s.0 };
 
-    ghost reader = { sides };
+    ghost reader = { λ _. sides };
 
     #[tactic(auto, unfolding(crate::specs::Certificates::sides))]
-    fn from_json(alloc: Global, value: &Value) -> Result<Sides, CertFault> {
+    fn from_json(alloc: Global, _width: Width, value: &Value) -> Result<Sides, CertFault> {
         let Some(signs) = value.as_str() else {
             return Err(wrong_kind(alloc));
         };
@@ -113,11 +115,7 @@ fn basic_rows(alloc: Global, sides: &[Side]) -> Result<List<u32>, OutOfMemory>
 }
 
 /// The vertex with these sides, whose basis lists the rows that are basic.
-pub(crate) fn vertex(
-    alloc: Global,
-    sides: Sides,
-    coef: List<Frac128>,
-) -> Result<Vertex<Frac128>, OutOfMemory>
+pub(crate) fn vertex(alloc: Global, sides: Sides, coef: List<Ratio>) -> Result<Vertex, OutOfMemory>
     ensures { IfOk result (λ v. v ≡ record { basis = record { rows = basic_rows sides.0 }; sides = sides.0; coef = coef }) }
 {
     let rows = basic_rows(alloc, sides.0.as_slice())?;

@@ -1,13 +1,10 @@
 -- Lists of variables that are the same.
 use Rattle.std.proofs.Common.{◌≡◌, ◌<◌, ◌≤◌, ◌&&◌, ℕ, suc, ◌+◌, ◌-◌, Bool, true, false, List, [], ◌∷◌, ◌++◌, length, take, drop, get_or, refl, sym, ap, ◌∙◌, arith, add-one, length-take-le, length-append, length-drop}
+use Rattle.std.proofs.Math.Bool.{and_assoc}
 use Rattle.std.proofs.Math.Seq.{drop-cons}
 use Rattle.std.proofs.lemmas.Bool.{and_parts}
 use Rattle.formula_parser.specs.declared.formula.Variable.{Variable}
 use Rattle.design_matrix.specs.CodedVariable.{same_variable, same_variables, without}
-
-and_assoc : (a b c : Bool) → (a && (b && c)) ≡ ((a && b) && c)
-and_assoc true b c = refl
-and_assoc false b c = refl
 
 same_length : (ls rs : List Variable) → same_variables ls rs ≡ true → length ls ≡ length rs
 same_length [] [] e = refl
@@ -33,7 +30,7 @@ same_split [] b c h = refl
 same_split (x ∷ xs) b [] h = absurd (omega arith)
 same_split (x ∷ xs) b (y ∷ ys) h =
     ap (λ t. same_variable x y && t) (same_split xs b ys (omega arith))
-    ∙ and_assoc (same_variable x y) (same_variables xs (take (length xs) ys)) (same_variables b (drop (length xs) ys))
+    ∙ sym (and_assoc (same_variable x y) (same_variables xs (take (length xs) ys)) (same_variables b (drop (length xs) ys)))
 
 pub without_parts : (whole rest : List Variable) (place : ℕ) → place < length whole → place ≤ length rest
     → same_variables (without place whole) rest ≡ (same_variables (take place whole) (take place rest) && same_variables (drop (place + 1) whole) (drop place rest))

@@ -1,5 +1,5 @@
-//! Tests of what a case of `cases` can't hold. Of layers: streams of bytes that fail (`port_io`), jobs at once (`rq_fan`), what may be
-//! handed to another thread, and answers of 64 bits in 128 (`loss_model`). Of whole runs (`rq_cli`): streams that fail, jobs that meet at a
+//! Tests of what a case of `cases` can't hold. Of layers: streams of bytes that fail (`port_io`), jobs at once (`rq_fan`), and what may be
+//! handed to another thread. Of whole runs (`rq_cli`): streams that fail, jobs that meet at a
 //! gate, and drawn weights.
 //!
 //! What is tested is what no clause says, and that the definitions say what was meant: each answer was worked out apart from the program.
@@ -17,5 +17,3 @@ mod runs;
 mod streams;
 #[cfg(test)]
 mod threads;
-#[cfg(test)]
-mod widths;

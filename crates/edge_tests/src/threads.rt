@@ -22,7 +22,7 @@ fn crosses<T: Send + Sync>() {}
 // What is made of fractions may be handed to another thread where they may.
 fn all_cross<F: Send + Sync>() {
     crosses::<Problem<F>>();
-    crosses::<Process<F>>();
+    crosses::<Process>();
     crosses::<Short<F>>();
 }
 

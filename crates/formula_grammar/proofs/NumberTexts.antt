@@ -13,7 +13,7 @@ use Rattle.frac_core.specs.NumberText.{are_digits, decimal_form, is_exponent_mar
 use Rattle.frac_core.specs.NumberReading.{front, rest, scan, scan_decimal, scan_from}
 use Rattle.frac_core.proofs.DigitSteps.{digit_is}
 use Rattle.frac_core.proofs.ReaderSteps.{digits_append}
-use Rattle.frac_core.proofs.Scanning.{written_body-scan, one_more}
+use Rattle.frac_core.proofs.Scanning.{written_body-scan, one_more, slash_apart, point_apart, mark_apart}
 use Rattle.formula_grammar.specs.Numbers.{NumberPart, Empty, Integer, LonePoint, Decimals, ExponentMark, ExponentSign, Exponent, Slash, Denominator, digit_then, greatest, is_signed, is_whole, next_part, number_len, part_behind}
 use Rattle.formula_grammar.specs.Tokens.{begins_number, starts_by}
 
@@ -138,15 +138,6 @@ front_other b bs h = rw h refl
 
 rest_other : (b : ℕ) (bs : List ℕ) → is_ascii_digit b ≡ false → rest (b ∷ bs) ≡ b ∷ bs
 rest_other b bs h = rw h refl
-
-mark_apart : (b : ℕ) → is_ascii_digit b ≡ true → is_exponent_mark b ≡ false
-mark_apart b h = grind (arith, nat_tests)
-
-point_apart : (b : ℕ) → is_ascii_digit b ≡ true → is_point b ≡ false
-point_apart b h = grind (arith, nat_tests)
-
-slash_apart : (b : ℕ) → is_ascii_digit b ≡ true → is_slash b ≡ false
-slash_apart b h = grind (arith, nat_tests)
 
 -- behind the digits of a decimal
 behind_decimals : (whole behind : List ℕ) (b : ℕ) (bs : List ℕ) → are_digits (whole ++ behind) ≡ true → is_ascii_digit b ≡ false

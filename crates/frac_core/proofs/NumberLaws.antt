@@ -166,7 +166,7 @@ fraction_body n d ds es w v positive = by_first_digits ds (47 ∷ es) w.digits r
     form : written_fraction ds es ≡ Some (record { num = pos n; den = d })
     form = rw (are_digits_from n ds w, are_digits_from d es v, w.value, v.value, lt-ltb 0 d positive) refl
 
-no_sign : (ds xs : List ℕ) → all_ascii_digits ds ≡ true → 0 < length ds → (starts_with_minus (ds ++ xs) ≡ false) × (without_leading_sign (ds ++ xs) ≡ ds ++ xs)
+pub no_sign : (ds xs : List ℕ) → all_ascii_digits ds ≡ true → 0 < length ds → (starts_with_minus (ds ++ xs) ≡ false) × (without_leading_sign (ds ++ xs) ≡ ds ++ xs)
 no_sign [] xs digits some = absurd (omega arith)
 no_sign (d ∷ ds) xs digits some =
     let digit = (and_parts (is_ascii_digit d) (all_ascii_digits ds) digits).0 in

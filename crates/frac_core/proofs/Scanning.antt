@@ -18,16 +18,16 @@ pub one_more : (n : ℕ) → 1 + n ≡ suc n
 one_more n = omega arith
 
 -- no digit is of this kind
-abbrev IsApart : (ℕ → Bool) → Type 0
+abbrev pub IsApart : (ℕ → Bool) → Type 0
 IsApart p = (c : ℕ) → is_ascii_digit c ≡ true → p c ≡ false
 
-slash_apart : IsApart is_slash
+pub slash_apart : IsApart is_slash
 slash_apart c h = grind (arith, nat_tests)
 
-point_apart : IsApart is_point
+pub point_apart : IsApart is_point
 point_apart c h = grind (arith, nat_tests)
 
-mark_apart : IsApart is_exponent_mark
+pub mark_apart : IsApart is_exponent_mark
 mark_apart c h = grind (arith, nat_tests)
 
 before-here : (p : ℕ → Bool) (b : ℕ) (xs : List ℕ) → p b ≡ true → before_first p (b ∷ xs) ≡ []

@@ -1,14 +1,8 @@
 -- The ends of a segment, and where an operation there overflows.
-use Rattle.std.specs.Prelude.{◌≡◌, ◌⊎◌, ℕ, ◌<◌, ◌≤◌, [], ◌∷◌, length, get_or, Option, pos}
-use Rattle.std.specs.Option.{option_map_or}
-use Rattle.std.proofs.Common.{arith, refl, sym, ap, subst, ◌∙◌, inl, inr}
-use Rattle.std.proofs.lemmas.Bool.{cases_lt}
-use Rattle.std.proofs.lemmas.Option.{slice_get_past}
+use Rattle.std.specs.Prelude.{◌≡◌, ◌⊎◌, ℕ, ◌<◌, length, get_or}
+use Rattle.std.proofs.Common.{arith, sym, subst, ◌∙◌, inl, inr}
 use Rattle.rational_laws.specs.Fraction.{Fraction, rational}
-use Rattle.rational_laws.specs.Solver.{number, ◌⊠◌, v0}
-use Rattle.rational_laws.specs.Rational.{ℚ, ◌*ℚ◌, whole}
-use Rattle.rational_laws.proofs.RationalLaws.{ring_ℚ}
-use Rattle.rational_laws.proofs.RationalSumLaws.{sum_ℚ-same, sum_ℚ-zero}
+use Rattle.rational_laws.specs.Rational.{ℚ}
 use Rattle.loss_model.specs.declared.spill.Spill.{Spill}
 use Rattle.loss_model.specs.Sample.{Sample, residual}
 use Rattle.loss_model.specs.Problem.{value_at}
@@ -22,27 +16,7 @@ use Rattle.tableau_model.specs.Places.{Place, at_of, sample_of, IsPlace}
 use Rattle.fraction_tableau.specs.Next.{IsDualFault}
 use Rattle.tableau_model.proofs.Lists.{value_read}
 
--- the coefficients are those of the basis beyond the columns too, where all are 0
 module _ {F : Type 0} (value : F → Fraction) (h : Place F) (sol : BasicSolution F) (is_place : IsPlace value h) (is : IsSolution value (sample_of value h) (at_of h) h.inverse sol) where
-  past : (k : ℕ) → h.task.problem.columns ≤ k → coefficient (sample_of value h) (at_of h) h.inverse k ≡ whole (pos 0)
-  past k beyond =
-      sum_ℚ-same h.task.problem.columns (λ j. h.inverse k j *ℚ (sample_of value h).y (at_of h j)) (λ j. whole (pos 0))
-      (λ j lj. ap (λ z. z *ℚ (sample_of value h).y (at_of h j)) (is_place.ends k j (λ within. omega (arith, beyond, within.0)))
-      ∙ ring_ℚ ((sample_of value h).y (at_of h j) ∷ []) (number (pos 0) ⊠ v0) (number (pos 0)) refl)
-      ∙ sum_ℚ-zero h.task.problem.columns
-
-  pub coefficients_are : value_at value sol.coef ≡ coefficient (sample_of value h) (at_of h) h.inverse
-  coefficients_are = λ i. λ k. each k i
-    where
-      each : (k : ℕ) → value_at value sol.coef k ≡ coefficient (sample_of value h) (at_of h) h.inverse k
-      each k = by (cases_lt k h.task.problem.columns)
-        where
-          by : (k < h.task.problem.columns) ⊎ (h.task.problem.columns ≤ k) → value_at value sol.coef k ≡ coefficient (sample_of value h) (at_of h) h.inverse k
-          by (inl lk) = is.coef k lk
-          by (inr beyond) =
-              ap (λ (o : Option F). option_map_or (λ x. rational (value x)) o (whole (pos 0))) (slice_get_past sol.coef k (omega (arith, is.columns, beyond)))
-              ∙ sym (past k beyond)
-
   pub duals_fault : (range : ℕ) (theta : ℚ) (end : ℕ) (s : Spill F) → IsDualFault value range (length sol.constant) (value_at value sol.constant) (value_at value sol.linear) theta s
       → IsEndSpill value range (sample_of value h) (at_of h) h.inverse end theta s
   duals_fault range theta end s (j, lj, k) =

@@ -12,4 +12,3 @@ pub mod Crossed
 pub mod LeastItem
 pub mod Stepping
 pub mod EndSpills
-pub mod Stayed

@@ -26,23 +26,25 @@ use Rattle.fraction_tableau.specs.Kept.{IsKept}
 use Rattle.fraction_tableau.specs.Lines.{model, at_of, inverse_of, IsLine, HasSides, HasCoordinates}
 use Rattle.fraction_tableau.specs.Descents.{IsDescentSpill, Enters, first_slope}
 use Rattle.fraction_tableau.specs.Next.{IsDualFault}
-use Rattle.tableau_model.specs.Standing.{AreDuals, Stands}
+use Rattle.tableau_model.specs.Standing.{AreCoefficients, AreSides, AreDuals, Stands}
 use Rattle.fraction_tableau.proofs.Refusals.{short_weaker}
 
--- with the dual values at theta, the basic solution is what stands at the basis
-pub standing_by : {F : Type 0} (value : F → Fraction) (h : Place F) (theta : ℚ) (sol : BasicSolution F) → IsSolution value (sample_of value h) (places h) h.inverse sol
-    → (duals : List F) → AreDuals value h theta duals → Stands value h theta (record { coef = sol.coef; sides = sol.sides; duals = duals })
-standing_by {F} value h theta sol is duals are =
-    record {
-      coef = record { size = is.columns; each = is.coef };
-      sides = record { size = is.all_sides; each = side_here };
-      duals = are;
-    }
-  where
-    side_here : (i : ℕ) → i < length h.task.problem.rows → slice_get sol.sides i ≡ Some (side_at (sample_of value h) (places h) h.inverse i)
-    side_here i li =
-        let found : (s : Side) × (slice_get sol.sides i ≡ Some s) = item_there sol.sides i (omega (arith, li, is.all_sides)) in
-        found.1 ∙ ap (λ (s : Side). Some s) (sym (ap (λ (o : Option Side). unwrap_or o Basic) found.1) ∙ is.sides i li)
+-- the basic solution is what stands at the basis
+module _ {F : Type 0} (value : F → Fraction) (h : Place F) (sol : BasicSolution F) (is : IsSolution value (sample_of value h) (places h) h.inverse sol) where
+  pub coefficients_by : AreCoefficients value h value sol.coef
+  coefficients_by = record { size = is.columns; each = is.coef }
+
+  pub sides_by : AreSides value h sol.sides
+  sides_by = record { size = is.all_sides; each = side_here }
+    where
+      side_here : (i : ℕ) → i < length h.task.problem.rows → slice_get sol.sides i ≡ Some (side_at (sample_of value h) (places h) h.inverse i)
+      side_here i li =
+          let found : (s : Side) × (slice_get sol.sides i ≡ Some s) = item_there sol.sides i (omega (arith, li, is.all_sides)) in
+          found.1 ∙ ap (λ (s : Side). Some s) (sym (ap (λ (o : Option Side). unwrap_or o Basic) found.1) ∙ is.sides i li)
+
+  -- with the dual values at theta
+  pub standing_by : (theta : ℚ) (duals : List F) → AreDuals value h value theta duals → Stands value h theta (record { coef = sol.coef; sides = sol.sides; duals = duals })
+  standing_by theta duals are = record { coef = coefficients_by; sides = sides_by; duals = are }
 
 module _ {F : Type 0} (value : F → Fraction) (h : Place F) (theta : ℚ) (sol : BasicSolution F) (is : IsSolution value (sample_of value h) (places h) h.inverse sol)
     (duals : List F) (size : length duals ≡ length sol.constant)
@@ -50,11 +52,11 @@ module _ {F : Type 0} (value : F → Fraction) (h : Place F) (theta : ℚ) (sol 
   dual_here : (j : ℕ) → j < h.task.problem.columns → value_at value duals j ≡ dual_value (sample_of value h) (places h) h.inverse theta j
   dual_here j lj = each j (omega (arith, lj, is.constants)) ∙ ap₂ (λ y z. y +ℚ (z *ℚ theta)) (is.constant j lj) (is.linear j lj)
 
-  pub duals_here : AreDuals value h theta duals
+  pub duals_here : AreDuals value h value theta duals
   duals_here = record { size = size ∙ is.constants; each = dual_here }
 
   pub stands_here : Stands value h theta (record { coef = sol.coef; sides = sol.sides; duals = duals })
-  stands_here = standing_by value h theta sol is duals duals_here
+  stands_here = standing_by value h sol is theta duals duals_here
 
 -- ---- what overflows
 

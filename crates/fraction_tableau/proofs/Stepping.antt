@@ -4,7 +4,6 @@ use Rattle.std.proofs.Common.{sym, subst, inl, inr}
 use Rattle.rational_laws.specs.Fraction.{Fraction, rational}
 use Rattle.rational_laws.specs.Rational.{ℚ, ◌≤ℚ◌}
 use Rattle.rational_laws.proofs.RationalLaws.{≤ℚ_trans}
-use Rattle.loss_model.specs.declared.process.Exchange.{Exchange}
 use Rattle.loss_model.specs.declared.spill.Spill.{Spill}
 use Rattle.loss_model.specs.Sample.{Sample}
 use Rattle.loss_model.specs.Spill.{AtSome}
@@ -16,6 +15,7 @@ use Rattle.walk_model.specs.WalkTrails.{is_below}
 use Rattle.walk_model.specs.SlopeLaws.{crossing_of}
 use Rattle.walk_model.specs.WalkSpills.{IsCrossingSpill, IsStaySpill, of_basis, of_crossing, of_pivot, of_ratio, of_tie}
 use Rattle.walk_model.proofs.Trails.{below_from}
+use Rattle.tableau_model.specs.declared.answer.WalkingStep.{WalkingStep}
 use Rattle.tableau_model.specs.WalkAnswers.{IsWalkingAnswer}
 use Rattle.fraction_tableau.specs.Kept.{place}
 use Rattle.tableau_model.specs.declared.breakpoint.Breakpoint.{Breakpoint}
@@ -56,7 +56,7 @@ module _ {F : Type 0} (value : F → Fraction) (v : BasisView F) (from hi : ℚ)
   next : IsNextBreak (over_quantiles (sample_at value v)) (rows_at value v) (entries_at value v) from (rational (value b.theta)) b.position b.direction
   next = first_is_next value p at a from stop b first
 
-  pub step_is : (o : Option (Exchange F)) → IsStepAt value v b hi o → IsWalkingAnswer value (place value v.tableau.now) from hi o
+  pub step_is : (o : Option (WalkingStep F)) → IsStepAt value v b hi o → IsWalkingAnswer value (place value v.tableau.now) from hi o
   step_is None past =
       λ t j r h. below_from t hi h.within (≤ℚ_trans hi theta t past (next.least t j h.direction h.break.position h.break.after h.break.crosses))
   step_is (Some x) (below, at_theta, at_position, entering) =

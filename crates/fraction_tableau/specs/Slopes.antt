@@ -27,7 +27,7 @@ module _ {F : Type 0} (value : F → Fraction) where
   -- the dual values are those of the basis at theta
   pub record HasDuals (s : Slopes F) : Type 0 where
     pub kept : IsKept value s.tableau.now
-    pub duals : AreDuals value (place value s.tableau.now) (rational (value s.theta)) s.duals.now
+    pub duals : AreDuals value (place value s.tableau.now) value (rational (value s.theta)) s.duals.now
 
   -- the basis of these slopes
   abbrev pub model : Slopes F → Sample

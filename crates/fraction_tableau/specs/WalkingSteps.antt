@@ -2,10 +2,10 @@
 use Rattle.std.specs.Prelude.{◌≡◌, ℕ, Option, Some, None}
 use Rattle.rational_laws.specs.Fraction.{Fraction, rational}
 use Rattle.rational_laws.specs.Rational.{ℚ, ◌≤ℚ◌}
-use Rattle.loss_model.specs.declared.process.Exchange.{Exchange}
 use Rattle.loss_model.specs.declared.spill.Spill.{Spill}
 use Rattle.pivot_model.specs.Duals.{◌<ℚ◌}
 use Rattle.walk_model.specs.Walks.{IsFirstMover}
+use Rattle.tableau_model.specs.declared.answer.WalkingStep.{WalkingStep}
 use Rattle.tableau_model.specs.declared.breakpoint.Breakpoint.{Breakpoint}
 use Rattle.fraction_tableau.specs.declared.view.BasisView.{BasisView}
 use Rattle.fraction_tableau.specs.Lines.{IsOrderSpill}
@@ -13,7 +13,7 @@ use Rattle.fraction_tableau.specs.Views.{sample_at, rows_at, entries_at}
 
 module _ {F : Type 0} (value : F → Fraction) where
   -- the step at a crossing, or none where that is not below hi
-  abbrev pub IsStepAt : BasisView F → Breakpoint F → ℚ → Option (Exchange F) → Type 0
+  abbrev pub IsStepAt : BasisView F → Breakpoint F → ℚ → Option (WalkingStep F) → Type 0
   IsStepAt v b hi None = hi ≤ℚ rational (value b.theta)
   IsStepAt v b hi (Some x) =
       (rational (value b.theta) <ℚ hi) × (x.theta ≡ b.theta) × (x.position ≡ b.position)

@@ -12,7 +12,7 @@ ghost use Rattle.tableau_model.specs.Standing.{Stands};
 use crate::fractions::{FractionTableau, failure};
 use crate::standing::Next;
 use frac_core::{Exact, OutOfMemory};
-use loss_model::{Basis, Vertex};
+use loss_model::{Basis, Vertex, widened};
 use tableau_model::{Failure, Fitted, Standing, Step, ascending, by_row};
 
 impl<'a, F: Exact> FractionTableau<'a, F> {
@@ -30,31 +30,33 @@ impl<'a, F: Exact> FractionTableau<'a, F> {
     }
 
     /// The vertex of what stands at the basis, with the dual values of its rows, ascending.
-    fn fit(&self, standing: Standing<F>, theta: F) -> Result<Fitted<F>, OutOfMemory>
+    fn fit(&self, standing: Standing<F>, theta: F) -> Result<Fitted, OutOfMemory>
         requires { Stands F.value (place F.value self.now) (rational (F.value theta)) standing }
         ensures { IfOk result (IsFitted F.value (place F.value self.now) (rational (F.value theta))) }
     {
         let _theta = theta;
         let rows = self.basis().rows.as_slice();
         let sorted = ascending(self.alloc(), rows)?;
-        let basic = by_row(
+        let values = by_row(
             self.alloc(),
             rows,
             sorted.as_slice(),
             standing.duals.as_slice(),
         )?;
+        let basic = widened(self.alloc(), values.as_slice())?;
+        let coef = widened(self.alloc(), standing.coef.as_slice())?;
         Ok(Fitted {
             vertex: Vertex {
                 basis: Basis { rows: sorted },
                 sides: standing.sides,
-                coef: standing.coef,
+                coef,
             },
             basic,
         })
     }
 
     /// The vertex of the basis, where no slope is negative, with the dual values of its rows at theta.
-    pub fn vertex(&self, theta: F) -> Result<Fitted<F>, Failure<F>>
+    pub fn vertex(&self, theta: F) -> Result<Fitted, Failure<F>>
         requires costs { HasCosts (sample F.value self.now.problem) (rational (F.value theta)) }
         requires stop { IsOptimalAt F.value (place F.value self.now) (rational (F.value theta)) }
         ensures fitted { IfOk result (IsFitted F.value (place F.value self.now) (rational (F.value theta))) }

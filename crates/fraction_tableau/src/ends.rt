@@ -9,13 +9,15 @@ ghost use Rattle.basis_model.specs.Basis.{coefficient};
 ghost use Rattle.walk_model.specs.WalkSpills.{IsSegmentEnd, IsEndSpill, IsStaySpill};
 ghost use Rattle.fraction_tableau.specs.Kept.{place};
 ghost use Rattle.fraction_tableau.specs.Views.{IsView, sample_at, rows_at, entries_at};
-ghost use Rattle.fraction_tableau.specs.Ends.{end_number, IsEnded, IsEndedSpill};
+ghost use Rattle.tableau_model.specs.Standing.{IsEndAt};
+ghost use Rattle.fraction_tableau.specs.Ends.{end_number, IsEndedSpill};
 
 use crate::standing::duals_at;
 use crate::view::BasisView;
 use frac_core::{Exact, List};
-use loss_model::{Quantity, Short, Site, Spill, plus_product};
-use tableau_model::by_row;
+use loss_model::{Quantity, Short, Site, Spill, plus_product, widened};
+use ratio::Ratio;
+use tableau_model::{EndValues, by_row};
 
 /// Which end of a segment.
 #[derive(Clone, Copy)]
@@ -24,18 +26,11 @@ pub enum End {
     High,
 }
 
-/// What stands at an end: the dual values of the basis by ascending row, and the loss.
-#[derive(Drop)]
-pub struct EndValues<F> {
-    pub basic: List<F>,
-    pub loss: F,
-}
-
 /// What stands at both ends.
 #[derive(Drop)]
-pub struct Ends<F> {
-    pub low: EndValues<F>,
-    pub high: EndValues<F>,
+pub struct Ends {
+    pub low: EndValues,
+    pub high: EndValues,
 }
 
 /// The price of a residual: the cost of the side on which it lies, and its size.
@@ -112,10 +107,10 @@ impl<'a, F: Exact> BasisView<'a, F> {
     }
 
     /// What stands at the end theta; `sorted` has the rows of the basis, ascending.
-    fn end_at(&self, sorted: &[u32], theta: F, end: End) -> Result<EndValues<F>, Short<F>>
+    fn end_at(&self, sorted: &[u32], theta: F, end: End) -> Result<EndValues, Short<F>>
         requires view { IsView F.value self.now }
         requires members { (k : ℕ) → k < length sorted.now → Contains self.now.tableau.now.rows (slice_index sorted.now k) }
-        ensures ended { IfOk result (IsEnded F.value (place F.value self.now.tableau.now) (rational (F.value theta)) sorted.now) }
+        ensures ended { IfOk result (IsEndAt F.value (place F.value self.now.tableau.now) (rational (F.value theta)) sorted.now) }
         ensures spill { IfErr result (IsShortOf (IsEndedSpill F.value F.range self.now (rational (F.value theta)) end)) }
     {
         let solution = self.solution;
@@ -126,18 +121,20 @@ impl<'a, F: Exact> BasisView<'a, F> {
             theta,
         )?;
         let rows = self.tableau.basis().rows.as_slice();
-        let basic = by_row(self.tableau.alloc(), rows, sorted, duals.as_slice())?;
-        let loss = self.loss_at(theta, end)?;
+        let values = by_row(self.tableau.alloc(), rows, sorted, duals.as_slice())?;
+        let basic = widened(self.tableau.alloc(), values.as_slice())?;
+        let total = self.loss_at(theta, end)?;
+        let loss = Ratio::widen(self.tableau.alloc(), total)?;
         Ok(EndValues { basic, loss })
     }
 
     /// What stands at both ends of a segment from one quantile to another. What is refused is refused to
     /// each stay that ends there.
-    pub(crate) fn ends_at(&self, sorted: &[u32], from: F, to: F) -> Result<Ends<F>, Short<F>>
+    pub(crate) fn ends_at(&self, sorted: &[u32], from: F, to: F) -> Result<Ends, Short<F>>
         requires view { IsView F.value self.now }
         requires members { (k : ℕ) → k < length sorted.now → Contains self.now.tableau.now.rows (slice_index sorted.now k) }
-        ensures low { IfOk result (λ ends. IsEnded F.value (place F.value self.now.tableau.now) (rational (F.value from)) sorted.now ends.low) }
-        ensures high { IfOk result (λ ends. IsEnded F.value (place F.value self.now.tableau.now) (rational (F.value to)) sorted.now ends.high) }
+        ensures low { IfOk result (λ ends. IsEndAt F.value (place F.value self.now.tableau.now) (rational (F.value from)) sorted.now ends.low) }
+        ensures high { IfOk result (λ ends. IsEndAt F.value (place F.value self.now.tableau.now) (rational (F.value to)) sorted.now ends.high) }
         ensures refused { let p = sample_at F.value self.now in let at = rows_at F.value self.now in let a = entries_at F.value self.now in
             (hi : ℚ) → IsSegmentEnd p at a (rational (F.value from)) hi (rational (F.value to))
             → IfErr result (IsShortOf (IsStaySpill F.value F.range p at a (rational (F.value from)) hi)) }

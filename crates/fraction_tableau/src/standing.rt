@@ -57,7 +57,7 @@ impl<'a, F: Exact> FractionTableau<'a, F> {
     /// The position that leaves at theta, by the dual values there.
     fn leaving(&self, duals: &[F], theta: F) -> Result<Option<Leaving<F>>, Spill<F>>
         requires kept { IsKept F.value self.now }
-        requires duals { AreDuals F.value (place F.value self.now) (rational (F.value theta)) duals.now }
+        requires duals { AreDuals F.value (place F.value self.now) F.value (rational (F.value theta)) duals.now }
         ensures leaving { IfOk result (IsLeavingAt F.value (sample F.value self.now.problem) (slice_index self.now.rows) (inverse_entry F.value self.now.square) (rational (F.value theta))) }
         ensures spill { IfErr result (IsStepSpill F.value F.range (sample F.value self.now.problem) (slice_index self.now.rows) (inverse_entry F.value self.now.square) (rational (F.value theta))) }
     {

@@ -20,12 +20,13 @@ use crate::ends::Ends;
 use crate::fractions::{FractionTableau, failure};
 use crate::view::BasisView;
 use frac_core::Exact;
-use loss_model::{Basis, Exchange, Segment, Short, Vertex};
-use tableau_model::{Breakpoint, Failure, ascending};
+use loss_model::{Basis, Segment, Short, Vertex, widened};
+use ratio::Ratio;
+use tableau_model::{Breakpoint, Failure, WalkingStep, ascending};
 
 impl<'a, F: Exact> BasisView<'a, F> {
     /// The step at a crossing, if it is below hi.
-    fn step_at(&self, next: Breakpoint<F>, hi: F) -> Result<Option<Exchange<F>>, Short<F>>
+    fn step_at(&self, next: Breakpoint<F>, hi: F) -> Result<Option<WalkingStep<F>>, Short<F>>
         requires view { IsView F.value self.now }
         requires position { next.position < self.now.tableau.now.problem.columns }
         requires costs { HasCosts (sample_at F.value self.now) (rational (F.value hi)) }
@@ -38,7 +39,7 @@ impl<'a, F: Exact> BasisView<'a, F> {
             return Ok(None);
         }
         let row = self.entering_at(next)?;
-        Ok(Some(Exchange {
+        Ok(Some(WalkingStep {
             theta: next.theta,
             position: next.position,
             row,
@@ -46,7 +47,7 @@ impl<'a, F: Exact> BasisView<'a, F> {
     }
 
     /// The walking step from `from` on that is left below hi, or none.
-    fn step_from(&self, from: F, hi: F) -> Result<Option<Exchange<F>>, Short<F>>
+    fn step_from(&self, from: F, hi: F) -> Result<Option<WalkingStep<F>>, Short<F>>
         requires view { IsView F.value self.now }
         requires costs { HasCosts (sample_at F.value self.now) (rational (F.value hi)) }
         requires optimal { let p = sample_at F.value self.now in let at = rows_at F.value self.now in let a = entries_at F.value self.now in
@@ -68,7 +69,7 @@ impl<'a, F: Exact> BasisView<'a, F> {
 
 impl<'a, F: Exact> FractionTableau<'a, F> {
     /// The walking step that is left, with its refusal.
-    fn next_walking(&self, from: F, hi: F) -> Result<Option<Exchange<F>>, Short<F>>
+    fn next_walking(&self, from: F, hi: F) -> Result<Option<WalkingStep<F>>, Short<F>>
         requires costs { HasCosts (sample_of F.value (place F.value self.now)) (rational (F.value hi)) }
         requires optimal { IsOptimalFrom F.value (place F.value self.now) (rational (F.value from)) }
         ensures step { IfOk result (IsWalkingAnswer F.value (place F.value self.now) (rational (F.value from)) (rational (F.value hi))) }
@@ -84,7 +85,7 @@ impl<'a, F: Exact> FractionTableau<'a, F> {
     }
 
     /// The walking step from `from` on that is left below hi, or none.
-    pub fn walking_step(&self, from: F, hi: F) -> Result<Option<Exchange<F>>, Failure<F>>
+    pub fn walking_step(&self, from: F, hi: F) -> Result<Option<WalkingStep<F>>, Failure<F>>
         requires costs { HasCosts (sample F.value self.now.problem) (rational (F.value hi)) }
         requires optimal { IsOptimalFrom F.value (place F.value self.now) (rational (F.value from)) }
         ensures step { IfOk result (IsWalkingAnswer F.value (place F.value self.now) (rational (F.value from)) (rational (F.value hi))) }
@@ -97,7 +98,7 @@ impl<'a, F: Exact> FractionTableau<'a, F> {
     }
 
     /// The segment of the basis, in fractions alone.
-    fn stay(&self, from: F, to: F) -> Result<Segment<F>, Short<F>>
+    fn stay(&self, from: F, to: F) -> Result<Segment, Short<F>>
         ensures segment { IfOk result (IsSegmentHere F.value (place F.value self.now) (rational (F.value from)) (rational (F.value to))) }
         ensures refused { let h = place F.value self.now in
             (hi : ℚ) → IsSegmentEnd (sample_of F.value h) (at_of h) h.inverse (rational (F.value from)) hi (rational (F.value to))
@@ -105,18 +106,22 @@ impl<'a, F: Exact> FractionTableau<'a, F> {
     {
         let solution = self.solution()?;
         let sorted = ascending(self.alloc(), self.basis().rows.as_slice())?;
+        // Lent again, since `self` is asked for more after it.
         let view = BasisView {
-            tableau: self,
+            tableau: &*self,
             solution: &solution,
         };
         let Ends { low, high } = view.ends_at(sorted.as_slice(), from, to)?;
+        let coef = widened(self.alloc(), solution.coef.as_slice())?;
+        let lo = Ratio::widen(self.alloc(), from)?;
+        let hi = Ratio::widen(self.alloc(), to)?;
         Ok(Segment {
-            lo: from,
-            hi: to,
+            lo,
+            hi,
             vertex: Vertex {
                 basis: Basis { rows: sorted },
                 sides: solution.sides,
-                coef: solution.coef,
+                coef,
             },
             basic_lo: low.basic,
             basic_hi: high.basic,
@@ -127,7 +132,7 @@ impl<'a, F: Exact> FractionTableau<'a, F> {
 
     /// The segment of the basis from one quantile to another. What is refused is refused to each walk of
     /// which this is a segment.
-    pub fn segment(&self, from: F, to: F) -> Result<Segment<F>, Failure<F>>
+    pub fn segment(&self, from: F, to: F) -> Result<Segment, Failure<F>>
         ensures segment { IfOk result (IsSegmentHere F.value (place F.value self.now) (rational (F.value from)) (rational (F.value to))) }
         ensures refused { let h = place F.value self.now in
             (hi : ℚ) → IsSegmentEnd (sample_of F.value h) (at_of h) h.inverse (rational (F.value from)) hi (rational (F.value to))

@@ -8,7 +8,7 @@ use whole_inverse::Obstacle;
 use wide_int::Wide;
 
 /// The number of a sign and a size, where it has 127 bits and a sign.
-pub(crate) fn narrow_number(negative: bool, size: &Natural) -> Option<i128>
+fn narrow_number(negative: bool, size: &Natural) -> Option<i128>
     ensures { IfSome result (λ n. n ≡ signed negative size.now) }
 {
     let low = size.narrow()?;

@@ -11,7 +11,7 @@
 //! `nested_test` calls it so:
 //! ```text
 //! let inverse = GramInverse::new(alloc, full)?;
-//! let factor = inverse.entry(tested[j], tested[m]);
+//! let factor = self.inverse.entry(self.tested[j], self.tested[m]);
 //!
 //! let weighted = weighted_column(alloc, full, column)?;
 //! let score = inner_product(alloc, weighted.as_slice(), wilcoxon)?;

@@ -10,5 +10,5 @@ pub mod Products
 pub mod Residuals
 pub mod Prices
 pub mod Narrowed
-pub mod Widened
+pub mod Alike
 pub mod Sides

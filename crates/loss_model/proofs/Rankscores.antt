@@ -76,11 +76,11 @@ pub below : BelowScoresZero
 below p theta e basic i row down =
     ap (λ x. score x (p.up1 i) theta) (down ∙ ap₂ (λ x y. neg_ℚ (x +ℚ (y *ℚ theta))) row.down0 row.down1) ∙ none (p.up1 i) theta (weight_some p i row)
 
-pub outside : {F : Type 0} (value : F → Fraction) (p : Problem F) (v : Vertex F) → SidesAreScores value p v
+pub outside : {F : Type 0} (value : F → Fraction) (p : Problem F) (v : Vertex) → SidesAreScores value p v
 outside {F} value p v theta basic i row = (
-  λ up. above (sample value p) theta (dual_value value p v basic theta) (basic_value value v basic) i row (on_side Up up),
-  λ down. below (sample value p) theta (dual_value value p v basic theta) (basic_value value v basic) i row (on_side Down down),
+  λ up. above (sample value p) theta (dual_value value p v basic theta) (basic_value v basic) i row (on_side Up up),
+  λ down. below (sample value p) theta (dual_value value p v basic theta) (basic_value v basic) i row (on_side Down down),
 )
   where
-    on_side : (s : Side) → slice_get v.sides i ≡ Some s → dual_value value p v basic theta i ≡ value_of_side (sample value p) theta (basic_value value v basic) i s
-    on_side s e = ap (λ (o : Option Side). option_map_or (value_of_side (sample value p) theta (basic_value value v basic) i) o (whole (pos 0))) e
+    on_side : (s : Side) → slice_get v.sides i ≡ Some s → dual_value value p v basic theta i ≡ value_of_side (sample value p) theta (basic_value v basic) i s
+    on_side s e = ap (λ (o : Option Side). option_map_or (value_of_side (sample value p) theta (basic_value v basic) i) o (whole (pos 0))) e

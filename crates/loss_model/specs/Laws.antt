@@ -11,7 +11,7 @@ use Rattle.loss_model.specs.Dual.{IsFeasible, dual_objective, IsDual, mix, IsDat
 use Rattle.loss_model.specs.Complements.{IsComplementary, residual_change}
 use Rattle.loss_model.specs.Vertex.{value_of_side, IsOn, dual_value}
 use Rattle.loss_model.specs.Segment.{Segments, Covers}
-use Rattle.loss_model.specs.Problem.{value_at, sample}
+use Rattle.loss_model.specs.Problem.{number_at, sample}
 
 -- no feasible dual values have an objective above the loss of any coefficients
 abbrev pub WeakDuality : Type 0
@@ -49,9 +49,9 @@ SidesShowDuals =
     → IsDual p theta b e
 
 -- so it is at a vertex whose sides are those of the residuals
-abbrev pub VertexIsDual : {F : Type 0} → (F → Fraction) → Problem F → Vertex F → List F → Type 0
+abbrev pub VertexIsDual : {F : Type 0} → (F → Fraction) → Problem F → Vertex → List Fraction → Type 0
 VertexIsDual value p v basic =
-    let b = value_at value v.coef in (theta : ℚ) → length v.sides ≡ length p.rows
+    let b = number_at v.coef in (theta : ℚ) → length v.sides ≡ length p.rows
     → ((i : ℕ) (side : Side) → slice_get v.sides i ≡ Some side → IsOn side (residual (sample value p) b i))
     → IsFeasible (sample value p) theta (dual_value value p v basic theta)
     → IsDual (sample value p) theta b (dual_value value p v basic theta)
@@ -102,8 +102,8 @@ BelowScoresZero =
     → e i ≡ value_of_side p theta basic i Down → rankscore p theta e i ≡ whole (pos 0)
 
 -- so the side of a data row that is outside the basis of a vertex is its rankscore at every quantile
-abbrev pub SidesAreScores : {F : Type 0} → (F → Fraction) → Problem F → Vertex F → Type 0
-SidesAreScores {F} value p v =
-    (theta : ℚ) (basic : List F) (i : ℕ) → IsDataRow (sample value p) i
+abbrev pub SidesAreScores : {F : Type 0} → (F → Fraction) → Problem F → Vertex → Type 0
+SidesAreScores value p v =
+    (theta : ℚ) (basic : List Fraction) (i : ℕ) → IsDataRow (sample value p) i
     → (slice_get v.sides i ≡ Some Up → rankscore (sample value p) theta (dual_value value p v basic theta) i ≡ whole (pos 1))
     × (slice_get v.sides i ≡ Some Down → rankscore (sample value p) theta (dual_value value p v basic theta) i ≡ whole (pos 0))

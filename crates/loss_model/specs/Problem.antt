@@ -12,6 +12,10 @@ use Rattle.loss_model.specs.Sample.{Sample}
 abbrev pub value_at : {F : Type 0} → (F → Fraction) → List F → ℕ → ℚ
 value_at value xs i = option_map_or (λ x. rational (value x)) (slice_get xs i) (whole (pos 0))
 
+-- number i of a list of any size, or 0 beyond its end
+abbrev pub number_at : List Fraction → ℕ → ℚ
+number_at = value_at (λ x. x)
+
 -- a number of row i, or 0 beyond the last row
 abbrev pub of_row : {F : Type 0} → List (Row F) → (Row F → ℚ) → ℕ → ℚ
 of_row rows number i = option_map_or number (slice_get rows i) (whole (pos 0))

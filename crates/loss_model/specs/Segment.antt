@@ -28,20 +28,20 @@ pub record Covers (rows : ℕ) (lo hi : ℚ) (s : Segments) : Type 0 where
   pub proper : (j : ℕ) → j < s.count → (cmp_ℚ (s.lo j) (s.hi j) ≡ Less) ⊎ ((s.count ≡ 1) × (lo ≡ hi))
 
 -- a number of segment j, or 0 beyond the last
-abbrev pub of_segment : {F : Type 0} → List (Segment F) → (Segment F → ℚ) → ℕ → ℚ
+abbrev pub of_segment : List Segment → (Segment → ℚ) → ℕ → ℚ
 of_segment segments number j = option_map_or number (slice_get segments j) (whole (pos 0))
 
 -- the dual value of row i at a fraction
-abbrev pub dual_at : {F : Type 0} → (F → Fraction) → Problem F → Vertex F → List F → F → ℕ → ℚ
-dual_at value p v basic theta i = dual_value value p v basic (rational (value theta)) i
+abbrev pub dual_at : {F : Type 0} → (F → Fraction) → Problem F → Vertex → List Fraction → Fraction → ℕ → ℚ
+dual_at value p v basic theta i = dual_value value p v basic (rational theta) i
 
 -- the segments of a process on a problem
-abbrev pub segments_of : {F : Type 0} → (F → Fraction) → Problem F → List (Segment F) → Segments
+abbrev pub segments_of : {F : Type 0} → (F → Fraction) → Problem F → List Segment → Segments
 segments_of value p segments =
     record {
       count = length segments;
-      lo = of_segment segments (λ s. rational (value s.lo));
-      hi = of_segment segments (λ s. rational (value s.hi));
+      lo = of_segment segments (λ s. rational s.lo);
+      hi = of_segment segments (λ s. rational s.hi);
       at_lo = λ j i. of_segment segments (λ s. dual_at value p s.vertex s.basic_lo s.lo i) j;
       at_hi = λ j i. of_segment segments (λ s. dual_at value p s.vertex s.basic_hi s.hi i) j;
     }

@@ -7,6 +7,7 @@ ghost use Rattle.loss_model.specs.Laws.{WeakDuality, DualsShowMinimum, DualsAreG
 use crate::problem::Problem;
 use crate::vertex::Vertex;
 use frac_core::Exact;
+use ratio::Ratio;
 
 /// Feasible dual values bound every loss from below, and where one of them is of equal cost with
 /// coefficients, both are optimal (Koenker 2005, chapter 6).
@@ -25,7 +26,7 @@ pub fn complementary_slackness()
 {}
 
 /// The same at a vertex, with the dual values of its basic rows.
-pub fn vertex_is_dual<F: Exact>(problem: &Problem<F>, vertex: &Vertex<F>, basic: &[F])
+pub fn vertex_is_dual<F: Exact>(problem: &Problem<F>, vertex: &Vertex, basic: &[Ratio])
     ensures { VertexIsDual F.value problem.now vertex.now basic.now }
 {}
 
@@ -48,7 +49,7 @@ pub fn rankscore_bounds()
 {}
 
 /// The rankscore of a data row outside a basis: 1 on the side above the fit, and 0 on the one below.
-pub fn rankscores_outside<F: Exact>(problem: &Problem<F>, vertex: &Vertex<F>)
+pub fn rankscores_outside<F: Exact>(problem: &Problem<F>, vertex: &Vertex)
     ensures above { AboveScoresOne }
     ensures below { BelowScoresZero }
     ensures vertex { SidesAreScores F.value problem.now vertex.now }

@@ -1,5 +1,6 @@
 //! Bases and the vertices that they make.
 use frac_core::List;
+use ratio::Ratio;
 
 /// As many rows as there are columns, with independent entries, which are fitted exactly.
 #[derive(Drop)]
@@ -18,8 +19,8 @@ pub enum Side {
 /// A basis in ascending order, the side of every row, which is `Basic` at exactly the rows of the
 /// basis, and the coefficients.
 #[derive(Drop)]
-pub struct Vertex<F> {
+pub struct Vertex {
     pub basis: Basis,
     pub sides: List<Side>,
-    pub coef: List<F>,
+    pub coef: List<Ratio>,
 }

@@ -53,7 +53,7 @@ module _ (p : Sample) (S : (ℕ → ℕ → ℚ) → Type 0) (Q : (ℕ → ℕ �
         };
       }
 
-module _ {F : Type 0} (value : F → Fraction) (p : Sample) where
+module _ (p : Sample) where
   -- ---- solving steps
 
   module _ (theta : ℚ) (costs : HasCosts p theta) where
@@ -67,20 +67,20 @@ module _ {F : Type 0} (value : F → Fraction) (p : Sample) where
 
     -- what follows from it holds of each step
     pub solving_along : (P : Improvement) → ((x : ℚ) (at : ℕ → ℕ) (a : ℕ → ℕ → ℚ) (next : ℕ → ℕ) (b : ℕ → ℕ → ℚ) → x ≡ theta → LowersLoss p theta at a next b → P x at a next b)
-        → (basis : List ℕ) (steps : List (Exchange F)) → AreSolvingSteps value p theta basis steps → Along value p P basis steps
+        → (basis : List ℕ) (steps : List Exchange) → AreSolvingSteps p theta basis steps → Along p P basis steps
     solving_along P follows basis [] h = tt
     solving_along P follows basis (s ∷ steps) h = (
-      solved (λ a b. P (rational (value s.theta)) (slice_index basis) a (slice_index (slice_set basis s.position s.row)) b) basis s.position s.row h.1
-          (λ a b less. follows (rational (value s.theta)) (slice_index basis) a (slice_index (slice_set basis s.position s.row)) b h.0 less),
+      solved (λ a b. P (rational s.theta) (slice_index basis) a (slice_index (slice_set basis s.position s.row)) b) basis s.position s.row h.1
+          (λ a b less. follows (rational s.theta) (slice_index basis) a (slice_index (slice_set basis s.position s.row)) b h.0 less),
       solving_along P follows (slice_set basis s.position s.row) steps h.2,
     )
 
-    pub loss_along : (basis : List ℕ) (steps : List (Exchange F)) → AreSolvingSteps value p theta basis steps → Along value p (LowersLoss p) basis steps
+    pub loss_along : (basis : List ℕ) (steps : List Exchange) → AreSolvingSteps p theta basis steps → Along p (LowersLoss p) basis steps
     loss_along = solving_along (LowersLoss p) (λ x at a next b e less. subst (λ t. LowersLoss p t at a next b) (sym e) less)
 
   -- ---- walking steps
 
-  module _ (when : F → ℚ) (f : Family) (reach : ℚ → Bool) where
+  module _ (when : Fraction → ℚ) (f : Family) (reach : ℚ → Bool) where
     pub walked : (Q : (ℕ → ℕ → ℚ) → (ℕ → ℕ → ℚ) → Type 0) (from t : ℚ) (basis : List ℕ) (j r : ℕ) → AtBasis f.sample basis (λ a. IsWalkingStep f (slice_index basis) a reach from t j r)
         → ((a b : ℕ → ℕ → ℚ) → IsBasis f.sample (slice_index basis) a → IsBasis f.sample (slice_index (slice_set basis j r)) b → AreExchanged f.sample.columns (slice_index basis) (slice_index (slice_set basis j r)) j r
         → IsWalkingStep f (slice_index basis) a reach from t j r → Q a b)
@@ -89,12 +89,12 @@ module _ {F : Type 0} (value : F → Fraction) (p : Sample) where
         stepped f.sample (λ a. IsWalkingStep f (slice_index basis) a reach from t j r) Q basis j r h
         (λ a step. (step.direction, step.break.position, step.entering.row, step.entering.mover)) gives
 
-    walking_along : (P : Improvement) → ((x : F) (at next : ℕ → ℕ) (a b : ℕ → ℕ → ℚ) (from : ℚ) (j r : ℕ) → IsBasis f.sample at a → IsBasis f.sample next b → AreExchanged f.sample.columns at next j r
-        → IsWalkingStep f at a reach from (when x) j r → P (rational (value x)) at a next b)
-        → (from : ℚ) (basis : List ℕ) (steps : List (Exchange F)) → AreWalkingSteps when f reach from basis steps → Along value f.sample P basis steps
+    walking_along : (P : Improvement) → ((x : Fraction) (at next : ℕ → ℕ) (a b : ℕ → ℕ → ℚ) (from : ℚ) (j r : ℕ) → IsBasis f.sample at a → IsBasis f.sample next b → AreExchanged f.sample.columns at next j r
+        → IsWalkingStep f at a reach from (when x) j r → P (rational x) at a next b)
+        → (from : ℚ) (basis : List ℕ) (steps : List Exchange) → AreWalkingSteps when f reach from basis steps → Along f.sample P basis steps
     walking_along P improves from basis [] h = tt
     walking_along P improves from basis (s ∷ steps) h = (
-      walked (λ a b. P (rational (value s.theta)) (slice_index basis) a (slice_index (slice_set basis s.position s.row)) b) from (when s.theta) basis s.position s.row h.0
+      walked (λ a b. P (rational s.theta) (slice_index basis) a (slice_index (slice_set basis s.position s.row)) b) from (when s.theta) basis s.position s.row h.0
           (λ a b u v ex step. improves s.theta (slice_index basis) (slice_index (slice_set basis s.position s.row)) a b from s.position s.row u v ex step),
       walking_along P improves (when s.theta) (slice_set basis s.position s.row) steps h.1,
     )
@@ -107,10 +107,10 @@ module _ {F : Type 0} (value : F → Fraction) (p : Sample) where
       change_falls p at next a b j r step.direction u v ex step.break.position step.entering t step.break.crosses,
     )
 
-    pub quantiles_along : (from : ℚ) (basis : List ℕ) (steps : List (Exchange F)) → AreWalkingSteps (theta_value value) (over_quantiles p) reach from basis steps → Along value p (LowersChange p) basis steps
+    pub quantiles_along : (from : ℚ) (basis : List ℕ) (steps : List Exchange) → AreWalkingSteps theta_value (over_quantiles p) reach from basis steps → Along p (LowersChange p) basis steps
     quantiles_along =
-        walking_along (theta_value value) (over_quantiles p) reach (LowersChange p)
-        (λ x at next a b from j r u v ex step. over_step from (rational (value x)) at next a b j r u v ex step)
+        walking_along theta_value (over_quantiles p) reach (LowersChange p)
+        (λ x at next a b from j r u v ex step. over_step from (rational x) at next a b j r u v ex step)
 
     module _ (tau : ℚ) (c : ℕ) (lc : c < p.columns) where
       pub rise_step : (from t : ℚ) (at next : ℕ → ℕ) (a b : ℕ → ℕ → ℚ) (j r : ℕ) → IsBasis p at a → IsBasis p next b → AreExchanged p.columns at next j r
@@ -123,28 +123,28 @@ module _ {F : Type 0} (value : F → Fraction) (p : Sample) where
       fall_step from t at next a b j r u v ex step =
           (coefficient_moves p at next a b j r step.direction u v ex step.break.position step.entering c lc tau t).1 step.break.crosses
 
-      pub rising_along : (from : ℚ) (basis : List ℕ) (steps : List (Exchange F)) → AreWalkingSteps (negated_theta value) (rising_value p tau c) reach from basis steps → Along value p (RaisesCoefficient p c) basis steps
+      pub rising_along : (from : ℚ) (basis : List ℕ) (steps : List Exchange) → AreWalkingSteps negated_theta (rising_value p tau c) reach from basis steps → Along p (RaisesCoefficient p c) basis steps
       rising_along =
-          walking_along (negated_theta value) (rising_value p tau c) reach (RaisesCoefficient p c)
-          (λ x at next a b from j r u v ex step. rise_step from (negated_theta value x) at next a b j r u v ex step)
+          walking_along negated_theta (rising_value p tau c) reach (RaisesCoefficient p c)
+          (λ x at next a b from j r u v ex step. rise_step from (negated_theta x) at next a b j r u v ex step)
 
-      pub falling_along : (from : ℚ) (basis : List ℕ) (steps : List (Exchange F)) → AreWalkingSteps (theta_value value) (falling_value p tau c) reach from basis steps → Along value p (LowersCoefficient p c) basis steps
+      pub falling_along : (from : ℚ) (basis : List ℕ) (steps : List Exchange) → AreWalkingSteps theta_value (falling_value p tau c) reach from basis steps → Along p (LowersCoefficient p c) basis steps
       falling_along =
-          walking_along (theta_value value) (falling_value p tau c) reach (LowersCoefficient p c)
-          (λ x at next a b from j r u v ex step. fall_step from (theta_value value x) at next a b j r u v ex step)
+          walking_along theta_value (falling_value p tau c) reach (LowersCoefficient p c)
+          (λ x at next a b from j r u v ex step. fall_step from (theta_value x) at next a b j r u v ex step)
 
   -- ---- the trails
 
-  pub solve_improves : (theta : ℚ) (trail : Trail F) (basis : List ℕ) → HasCosts p theta → (u : IsSolvingTrail value p theta trail basis) → Along value p (LowersLoss p) u.first trail.steps
+  pub solve_improves : (theta : ℚ) (trail : Trail) (basis : List ℕ) → HasCosts p theta → (u : IsSolvingTrail p theta trail basis) → Along p (LowersLoss p) u.first trail.steps
   solve_improves theta trail basis costs u = loss_along theta costs u.first trail.steps u.lawful
 
-  pub process_improves : (lo hi now : ℚ) (trail : Trail F) (basis : List ℕ) → HasCosts p lo → (u : IsProcessTrail value p lo hi trail basis now)
-      → Along value p (LowersLoss p) u.first u.solving × Along value p (LowersChange p) (basis_after u.first u.solving) u.walking
+  pub process_improves : (lo hi now : ℚ) (trail : Trail) (basis : List ℕ) → HasCosts p lo → (u : IsProcessTrail p lo hi trail basis now)
+      → Along p (LowersLoss p) u.first u.solving × Along p (LowersChange p) (basis_after u.first u.solving) u.walking
   process_improves lo hi now trail basis costs u =
       (loss_along lo costs u.first u.solving u.solved, quantiles_along (is_below hi) lo (basis_after u.first u.solving) u.walking u.walked)
 
-  pub interval_improves : (tau : ℚ) (c : ℕ) (bound : ℚ) (trail : Trail F) (basis : List ℕ) → HasCosts p tau → c < p.columns → (u : IsIntervalTrail value p tau c bound trail basis)
-      → Along value p (LowersLoss p) u.first trail.steps × Along value p (RaisesCoefficient p c) basis trail.rise × Along value p (LowersCoefficient p c) basis trail.fall
+  pub interval_improves : (tau : ℚ) (c : ℕ) (bound : ℚ) (trail : Trail) (basis : List ℕ) → HasCosts p tau → c < p.columns → (u : IsIntervalTrail p tau c bound trail basis)
+      → Along p (LowersLoss p) u.first trail.steps × Along p (RaisesCoefficient p c) basis trail.rise × Along p (LowersCoefficient p c) basis trail.fall
   interval_improves tau c bound trail basis costs lc u = (
     loss_along tau costs u.first trail.steps u.solved,
     rising_along (is_within bound) tau c lc (whole (pos 0)) basis trail.rise u.rose,

@@ -2,7 +2,7 @@
 -- first entry that differs.
 use Rattle.std.specs.Prelude.{◌≡◌, ℕ, suc, ◌<◌, if◌then◌else◌, ◌&&◌, List, [], ◌∷◌, slice_index, slice_set, pos}
 use Rattle.std.specs.declared.cmp.Ordering.TheVariants.{Less}
-use Rattle.rational_laws.specs.Fraction.{Fraction, rational}
+use Rattle.rational_laws.specs.Fraction.{rational}
 use Rattle.rational_laws.specs.Rational.{ℚ, ◌+ℚ◌, ◌-ℚ◌, ◌*ℚ◌, whole}
 use Rattle.rational_laws.specs.RationalSums.{sum_ℚ}
 use Rattle.loss_model.specs.declared.process.Exchange.{Exchange}
@@ -42,12 +42,12 @@ abbrev pub Improvement : Type 1
 Improvement = ℚ → (ℕ → ℕ) → (ℕ → ℕ → ℚ) → (ℕ → ℕ) → (ℕ → ℕ → ℚ) → Type 0
 
 -- it holds of each step
-abbrev pub Along : {F : Type 0} → (F → Fraction) → Sample → Improvement → List ℕ → List (Exchange F) → Type 0
-Along value p P basis [] = Unit {0}
-Along value p P basis (s ∷ steps) =
+abbrev pub Along : Sample → Improvement → List ℕ → List Exchange → Type 0
+Along p P basis [] = Unit {0}
+Along p P basis (s ∷ steps) =
     AtBasis p basis (λ a. AtBasis p (slice_set basis s.position s.row)
-    (λ b. P (rational (value s.theta)) (slice_index basis) a (slice_index (slice_set basis s.position s.row)) b))
-    × Along value p P (slice_set basis s.position s.row) steps
+    (λ b. P (rational s.theta) (slice_index basis) a (slice_index (slice_set basis s.position s.row)) b))
+    × Along p P (slice_set basis s.position s.row) steps
 
 module _ (p : Sample) where
   -- the perturbed loss falls
@@ -69,23 +69,23 @@ module _ (p : Sample) where
   LowersCoefficient c theta at a next b = lex_cmp (suc p.rows) (perturbed_coefficient p next b c) (perturbed_coefficient p at a c) ≡ Less
 
 -- each step of a lawful solve lowers the perturbed loss
-abbrev pub SolveImproves : {F : Type 0} → (F → Fraction) → Type 0
-SolveImproves {F} value =
-    (p : Sample) (theta : ℚ) (trail : Trail F) (basis : List ℕ) → HasCosts p theta → (lawful : IsSolvingTrail value p theta trail basis)
-    → Along value p (LowersLoss p) lawful.first trail.steps
+abbrev pub SolveImproves : Type 0
+SolveImproves =
+    (p : Sample) (theta : ℚ) (trail : Trail) (basis : List ℕ) → HasCosts p theta → (lawful : IsSolvingTrail p theta trail basis)
+    → Along p (LowersLoss p) lawful.first trail.steps
 
 -- in a process each solving step lowers it, and each walking step keeps it and lowers its change list
-abbrev pub ProcessImproves : {F : Type 0} → (F → Fraction) → Type 0
-ProcessImproves {F} value =
-    (p : Sample) (lo hi now : ℚ) (trail : Trail F) (basis : List ℕ) → HasCosts p lo → (lawful : IsProcessTrail value p lo hi trail basis now)
-    → Along value p (LowersLoss p) lawful.first lawful.solving
-    × Along value p (LowersChange p) (basis_after lawful.first lawful.solving) lawful.walking
+abbrev pub ProcessImproves : Type 0
+ProcessImproves =
+    (p : Sample) (lo hi now : ℚ) (trail : Trail) (basis : List ℕ) → HasCosts p lo → (lawful : IsProcessTrail p lo hi trail basis now)
+    → Along p (LowersLoss p) lawful.first lawful.solving
+    × Along p (LowersChange p) (basis_after lawful.first lawful.solving) lawful.walking
 
 -- in an interval each step of `rise` raises the perturbed coefficient of the column, and each of `fall` lowers it
-abbrev pub IntervalImproves : {F : Type 0} → (F → Fraction) → Type 0
-IntervalImproves {F} value =
-    (p : Sample) (tau : ℚ) (c : ℕ) (bound : ℚ) (trail : Trail F) (basis : List ℕ) → HasCosts p tau → c < p.columns
-    → (lawful : IsIntervalTrail value p tau c bound trail basis)
-    → Along value p (LowersLoss p) lawful.first trail.steps
-    × Along value p (RaisesCoefficient p c) basis trail.rise
-    × Along value p (LowersCoefficient p c) basis trail.fall
+abbrev pub IntervalImproves : Type 0
+IntervalImproves =
+    (p : Sample) (tau : ℚ) (c : ℕ) (bound : ℚ) (trail : Trail) (basis : List ℕ) → HasCosts p tau → c < p.columns
+    → (lawful : IsIntervalTrail p tau c bound trail basis)
+    → Along p (LowersLoss p) lawful.first trail.steps
+    × Along p (RaisesCoefficient p c) basis trail.rise
+    × Along p (LowersCoefficient p c) basis trail.fall

@@ -20,23 +20,23 @@ pub fn solving_step()
 /// So each step of a lawful trail improves a list: a solving step the perturbed loss, a step of a process
 /// its change list, and a step of `rise` or `fall` the perturbed coefficient.
 pub fn improving_trails<F: Exact>(theta: F)
-    ensures solve { SolveImproves F.value }
-    ensures process { ProcessImproves F.value }
-    ensures interval { IntervalImproves F.value }
+    ensures solve { SolveImproves }
+    ensures process { ProcessImproves }
+    ensures interval { IntervalImproves }
 {}
 
 /// So no basis comes twice in one part of a lawful trail.
 pub fn no_basis_twice<F: Exact>(theta: F)
-    ensures solve { NoneTwiceInSolve F.value }
-    ensures process { NoneTwiceInProcess F.value }
-    ensures interval { NoneTwiceInInterval F.value }
+    ensures solve { NoneTwiceInSolve }
+    ensures process { NoneTwiceInProcess }
+    ensures interval { NoneTwiceInInterval }
 {}
 
 /// So no lawful trail is longer than the bases of its parts, and none reaches a limit of so many steps.
 pub fn pivot_bound<F: Exact>(theta: F)
-    ensures short_solve { SolveIsShort F.value }
-    ensures short_process { ProcessIsShort F.value }
-    ensures solve { SolveWithinLimit F.value }
-    ensures process { ProcessWithinLimit F.value }
-    ensures interval { IntervalWithinLimit F.value }
+    ensures short_solve { SolveIsShort }
+    ensures short_process { ProcessIsShort }
+    ensures solve { SolveWithinLimit }
+    ensures process { ProcessWithinLimit }
+    ensures interval { IntervalWithinLimit }
 {}

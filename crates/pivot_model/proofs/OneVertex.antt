@@ -1,20 +1,20 @@
 -- At a basis stands one vertex.
-use Rattle.std.specs.Prelude.{◌≡◌, ◌⊎◌, ℕ, zero, suc, ◌<◌, ◌≤◌, List, length, slice_index, get_or, Contains}
+use Rattle.std.specs.Prelude.{◌≡◌, ◌⊎◌, ℕ, zero, suc, ◌<◌, ◌≤◌, List, [], ◌∷◌, length, slice_index, get_or, Contains}
 use Rattle.std.specs.List.Sorted.{IsStrictlyIncreasing}
-use Rattle.std.specs.Option.{option_map_or}
-use Rattle.std.proofs.Common.{arith, sym, ap, subst, ◌∙◌, inl, inr, pos}
+use Rattle.std.proofs.Common.{arith, refl, sym, ap, ap₂, subst, ◌∙◌, inl, inr}
 use Rattle.std.proofs.lemmas.Bool.{cases_lt}
 use Rattle.std.proofs.lemmas.Grind.{same_number_lists}
 use Rattle.std.proofs.lemmas.List.{same_lists}
-use Rattle.std.proofs.lemmas.Option.{slice_get-get_or, get_or_from_slice_get}
-use Rattle.rational_laws.specs.Fraction.{Fraction, rational}
-use Rattle.rational_laws.specs.Rational.{ℚ, whole}
+use Rattle.std.proofs.lemmas.Option.{get_or_from_slice_get}
+use Rattle.rational_laws.specs.Fraction.{Fraction}
+use Rattle.rational_laws.specs.Rational.{ℚ}
 use Rattle.loss_model.specs.declared.problem.Problem.{Problem}
 use Rattle.loss_model.specs.declared.vertex.Vertex.{Vertex}
-use Rattle.loss_model.specs.Problem.{value_at, sample}
+use Rattle.loss_model.specs.Problem.{number_at, sample}
 use Rattle.loss_model.proofs.Vertices.{ascending}
 use Rattle.basis_model.specs.Basis.{IsBasis}
 use Rattle.pivot_model.specs.Duals.{dual}
+use Rattle.pivot_model.specs.Laws.{IsSameVertex, numbers}
 use Rattle.pivot_model.specs.Results.{IsVertexAt, AreBasicDuals}
 use Rattle.pivot_model.specs.Trails.{EndsAt}
 use Rattle.pivot_model.proofs.Solved.{any_default}
@@ -64,35 +64,33 @@ same_ascending xs ys up up' sub sup size =
 
 -- ---- vertices
 
-module _ {F : Type 0} (value : F → Fraction) (same : (x y : F) → rational (value x) ≡ rational (value y) → x ≡ y) where
-  value_of : (xs : List F) (k : ℕ) (d : F) → k < length xs → value_at value xs k ≡ rational (value (get_or xs k d))
-  value_of xs k d l = ap (λ o. option_map_or (λ x. rational (value x)) o (whole (pos 0))) (slice_get-get_or xs k d l)
+-- lists of the same numbers
+pub same_values : (xs ys : List Fraction) (n : ℕ) → length xs ≡ n → length ys ≡ n → ((k : ℕ) → k < n → number_at xs k ≡ number_at ys k) → numbers xs ≡ numbers ys
+same_values [] [] n lx ly h = refl
+same_values [] (y ∷ ys) n lx ly h = absurd (omega (arith, lx, ly))
+same_values (x ∷ xs) [] n lx ly h = absurd (omega (arith, lx, ly))
+same_values (x ∷ xs) (y ∷ ys) n lx ly h =
+    ap₂ (λ z zs. z ∷ zs) (h 0 (omega (arith, lx))) (same_values xs ys (length xs) refl (omega (arith, lx, ly)) (λ k l. h (suc k) (omega (arith, lx, l))))
 
-  -- lists of the same values are the same
-  pub same_values : (xs ys : List F) (n : ℕ) → length xs ≡ n → length ys ≡ n → ((k : ℕ) → k < n → value_at value xs k ≡ value_at value ys k) → xs ≡ ys
-  same_values xs ys n lx ly h =
-      same_lists xs ys (lx ∙ sym ly)
-      (λ k d l. same (get_or xs k d) (get_or ys k d)
-      (sym (value_of xs k d l) ∙ h k (omega (arith, l, lx)) ∙ value_of ys k d (omega (arith, l, lx, ly))))
-
+module _ {F : Type 0} (value : F → Fraction) where
   module _ (p : Problem F) (theta : ℚ) (basis : List ℕ) where
     -- with one inverse
-    one_with : (a : ℕ → ℕ → ℚ) (v w : Vertex F) (basic other : List F) → IsVertexAt value p basis a v → IsVertexAt value p basis a w
-        → AreBasicDuals value p theta basis a v basic → AreBasicDuals value p theta basis a w other → (v ≡ w) × (basic ≡ other)
+    one_with : (a : ℕ → ℕ → ℚ) (v w : Vertex) (basic other : List Fraction) → IsVertexAt value p basis a v → IsVertexAt value p basis a w
+        → AreBasicDuals value p theta basis a v basic → AreBasicDuals value p theta basis a w other → IsSameVertex v w × (numbers basic ≡ numbers other)
     one_with a v w basic other hv hw dv dw =
         let rows : v.basis.rows ≡ w.basis.rows = same_ascending v.basis.rows w.basis.rows hv.shape.ascending hw.shape.ascending
         (λ i h. (hw.rows i).1 ((hv.rows i).0 h)) (λ i h. (hv.rows i).1 ((hw.rows i).0 h)) (hv.shape.size ∙ sym hw.shape.size) in
         let sides : v.sides ≡ w.sides = same_lists v.sides w.sides (hv.shape.sides ∙ sym hw.shape.sides)
         (λ k d l. get_or_from_slice_get v.sides k _ d (hv.sides k (omega (arith, l, hv.shape.sides)))
         ∙ sym (get_or_from_slice_get w.sides k _ d (hw.sides k (omega (arith, l, hv.shape.sides))))) in
-        let coef : v.coef ≡ w.coef = same_values v.coef w.coef p.columns hv.shape.coef hw.shape.coef (λ k l. hv.coef k l ∙ sym (hw.coef k l)) in (
-          λ i. record { basis = record { rows = rows i }; sides = sides i; coef = coef i },
+        let coef : numbers v.coef ≡ numbers w.coef = same_values v.coef w.coef p.columns hv.shape.coef hw.shape.coef (λ k l. hv.coef k l ∙ sym (hw.coef k l)) in (
+          record { basis = λ i. record { rows = rows i }; sides = sides; coef = coef },
           same_values basic other p.columns dv.size dw.size
               (λ j l. dv.each j l ∙ ap (λ (rows : List ℕ). dual (sample value p) (slice_index basis) a theta (slice_index rows j)) rows ∙ sym (dw.each j l)),
         )
 
-    pub one_vertex : (a b : ℕ → ℕ → ℚ) (v w : Vertex F) (basic other : List F) → IsBasis (sample value p) (slice_index basis) a → IsBasis (sample value p) (slice_index basis) b → EndsAt p.columns a → EndsAt p.columns b
-        → IsVertexAt value p basis a v → IsVertexAt value p basis b w → AreBasicDuals value p theta basis a v basic → AreBasicDuals value p theta basis b w other → (v ≡ w) × (basic ≡ other)
+    pub one_vertex : (a b : ℕ → ℕ → ℚ) (v w : Vertex) (basic other : List Fraction) → IsBasis (sample value p) (slice_index basis) a → IsBasis (sample value p) (slice_index basis) b → EndsAt p.columns a → EndsAt p.columns b
+        → IsVertexAt value p basis a v → IsVertexAt value p basis b w → AreBasicDuals value p theta basis a v basic → AreBasicDuals value p theta basis b w other → IsSameVertex v w × (numbers basic ≡ numbers other)
     one_vertex a b v w basic other u u' e e' hv hw dv dw =
         let one : b ≡ a = sym (same_inverse (sample value p) (slice_index basis) a b u u' e e') in
         one_with a v w basic other hv (subst (λ a. IsVertexAt value p basis a w) one hw) dv (subst (λ a. AreBasicDuals value p theta basis a w other) one dw)

@@ -3,7 +3,7 @@ use Rattle.std.specs.Prelude.{◌≡◌, ◌⊎◌, ℕ, ◌<◌, ◌≤◌, Boo
 use Rattle.std.proofs.Common.{arith, refl, sym, ap, ap₂, subst, ◌∙◌, inl, inr}
 use Rattle.std.proofs.lemmas.Bool.{cases_lt}
 use borrow.Author.Tests.{eqb-true, eqb-false}
-use Rattle.rational_laws.specs.Fraction.{Fraction, rational}
+use Rattle.rational_laws.specs.Fraction.{rational}
 use Rattle.rational_laws.specs.Solver.{number, ◌⊞◌, ◌⊟◌, v0, v1, v2}
 use Rattle.rational_laws.specs.Rational.{ℚ, ◌+ℚ◌, whole, ◌≤ℚ◌}
 use Rattle.rational_laws.proofs.RationalLaws.{ring_ℚ, ≤ℚ_trans}
@@ -19,6 +19,7 @@ use Rattle.pivot_model.specs.declared.direction.Direction.TheVariants.{Upward, D
 use Rattle.basis_model.specs.Basis.{IsBasis, dual_value}
 use Rattle.pivot_model.specs.Duals.{HasCosts}
 use Rattle.pivot_model.specs.Steps.{slope, HasNoNegativeSlope, is_before, passing, slope_before, IsLeaving, IsEntering, IsSolvingStep}
+use Rattle.pivot_model.specs.Laws.{step_of, IsSameTrail}
 use Rattle.pivot_model.specs.Trails.{EndsAt, basis_after, AreSolvingSteps, IsSolvingTrail, IsOptimalBasis, HasSolvingStep, ReachesLimit}
 use Rattle.pivot_model.proofs.Passing.{mover_order, before_later}
 
@@ -106,9 +107,9 @@ same_items [] (y ∷ ys) h = absurd (cc h)
 same_items (x ∷ xs) [] h = absurd (cc h)
 same_items (x ∷ xs) (y ∷ ys) h = let head : x ≡ y = cc h in let tail : map Some xs ≡ map Some ys = cc h in ap₂ (λ x xs. x ∷ xs) head (same_items xs ys tail)
 
-module _ {F : Type 0} (value : F → Fraction) (p : Sample) (theta : ℚ) (costs : HasCosts p theta) where
+module _ (p : Sample) (theta : ℚ) (costs : HasCosts p theta) where
   -- steps that have come to an optimal basis are not the first of longer ones
-  ended : (basis : List ℕ) (steps other : List (Exchange F)) → AreSolvingSteps value p theta basis steps → AreSolvingSteps value p theta basis other
+  ended : (basis : List ℕ) (steps other : List Exchange) → AreSolvingSteps p theta basis steps → AreSolvingSteps p theta basis other
       → length steps ≤ length other → IsOptimalBasis p theta (basis_after basis steps) → HasSolvingStep p theta (basis_after basis other) → ⊥
   ended basis [] [] u v l stop more =
       no_step p (slice_index basis) stop.a more.a theta more.holds.0 more.holds.1 stop.is_basis more.is_basis stop.ends more.ends stop.holds more.holds.2
@@ -120,29 +121,39 @@ module _ {F : Type 0} (value : F → Fraction) (p : Sample) (theta : ℚ) (costs
       let next : slice_set basis s.position s.row ≡ slice_set basis t.position t.row = ap₂ (λ j r. slice_set basis j r) same.0 same.1 in
       let rest : length steps ≤ length other = omega arith in
       ended (slice_set basis s.position s.row) steps other u.2
-      (subst (λ b. AreSolvingSteps value p theta b other) (sym next) v.2) rest stop
+      (subst (λ b. AreSolvingSteps p theta b other) (sym next) v.2) rest stop
       (subst (λ b. HasSolvingStep p theta (basis_after b other)) (sym next) more)
 
-  pub one_trail : (trail other : Trail F) (basis : List ℕ) (limit : ℕ) → IsSolvingTrail value p theta trail basis → IsOptimalBasis p theta basis → length trail.steps ≤ limit → ¬ ReachesLimit value p theta limit other
+  pub one_trail : (trail other : Trail) (basis : List ℕ) (limit : ℕ) → IsSolvingTrail p theta trail basis → IsOptimalBasis p theta basis → length trail.steps ≤ limit → ¬ ReachesLimit p theta limit other
   one_trail trail other basis limit u stop short r =
       let v = r.lawful in
       let first : u.first ≡ v.first = same_items u.first v.first (one_start p p.rows (map Some u.first) (map Some v.first) u.greedy v.greedy) in
       ended u.first trail.steps other.steps u.lawful
-      (subst (λ b. AreSolvingSteps value p theta b other.steps) (sym first) v.lawful)
+      (subst (λ b. AreSolvingSteps p theta b other.steps) (sym first) v.lawful)
       (subst (λ n. length trail.steps ≤ n) (sym r.count) short)
       (subst (IsOptimalBasis p theta) (sym u.leads) stop)
       (subst (λ b. HasSolvingStep p theta (basis_after b other.steps)) (sym first) (subst (HasSolvingStep p theta) (sym v.leads) r.more))
 
 -- ---- trails that have ended
 
-module _ {F : Type 0} (value : F → Fraction) (same : (x y : F) → rational (value x) ≡ rational (value y) → x ≡ y) (p : Sample) (theta : ℚ) (costs : HasCosts p theta) where
-  same_exchange : (s t : Exchange F) → rational (value s.theta) ≡ theta → rational (value t.theta) ≡ theta → s.position ≡ t.position → s.row ≡ t.row → s ≡ t
-  same_exchange s t u v position row =
-      let at : s.theta ≡ t.theta = same s.theta t.theta (u ∙ sym v) in
-      λ i. record { theta = at i; position = position i; row = row i }
+-- steps of the same numbers lead to one basis
+same_after : (basis : List ℕ) (steps other : List Exchange) → map step_of steps ≡ map step_of other → basis_after basis steps ≡ basis_after basis other
+same_after basis [] [] h = refl
+same_after basis [] (t ∷ other) h = absurd (cc h)
+same_after basis (s ∷ steps) [] h = absurd (cc h)
+same_after basis (s ∷ steps) (t ∷ other) h =
+    let step : step_of s ≡ step_of t = cc h in
+    let tail : map step_of steps ≡ map step_of other = cc h in
+    ap (λ x. basis_after (slice_set basis x.1 x.2) steps) step ∙ same_after (slice_set basis t.position t.row) steps other tail
 
-  same_steps : (basis : List ℕ) (steps other : List (Exchange F)) → AreSolvingSteps value p theta basis steps → AreSolvingSteps value p theta basis other
-      → IsOptimalBasis p theta (basis_after basis steps) → IsOptimalBasis p theta (basis_after basis other) → steps ≡ other
+module _ (p : Sample) (theta : ℚ) (costs : HasCosts p theta) where
+  same_exchange : (s t : Exchange) → rational s.theta ≡ theta → rational t.theta ≡ theta → s.position ≡ t.position → s.row ≡ t.row → step_of s ≡ step_of t
+  same_exchange s t u v position row =
+      let at : rational s.theta ≡ rational t.theta = u ∙ sym v in
+      λ i. (at i, position i, row i)
+
+  same_steps : (basis : List ℕ) (steps other : List Exchange) → AreSolvingSteps p theta basis steps → AreSolvingSteps p theta basis other
+      → IsOptimalBasis p theta (basis_after basis steps) → IsOptimalBasis p theta (basis_after basis other) → map step_of steps ≡ map step_of other
   same_steps basis [] [] u v stop last = refl
   same_steps basis [] (t ∷ other) u v stop last =
       absurd (no_step p (slice_index basis) stop.a v.1.a theta t.position t.row stop.is_basis v.1.is_basis stop.ends v.1.ends stop.holds v.1.holds)
@@ -153,20 +164,20 @@ module _ {F : Type 0} (value : F → Fraction) (same : (x y : F) → rational (v
       let next : slice_set basis s.position s.row ≡ slice_set basis t.position t.row = ap₂ (λ j r. slice_set basis j r) step.0 step.1 in
       ap₂ (λ s steps. s ∷ steps) (same_exchange s t u.0 v.0 step.0 step.1)
       (same_steps (slice_set basis s.position s.row) steps other u.2
-      (subst (λ b. AreSolvingSteps value p theta b other) (sym next) v.2) stop
+      (subst (λ b. AreSolvingSteps p theta b other) (sym next) v.2) stop
       (subst (λ b. IsOptimalBasis p theta (basis_after b other)) (sym next) last))
 
-  pub one_ended : (trail other : Trail F) (basis last : List ℕ) → IsSolvingTrail value p theta trail basis → IsOptimalBasis p theta basis → IsSolvingTrail value p theta other last → IsOptimalBasis p theta last → (trail ≡ other)
+  pub one_ended : (trail other : Trail) (basis last : List ℕ) → IsSolvingTrail p theta trail basis → IsOptimalBasis p theta basis → IsSolvingTrail p theta other last → IsOptimalBasis p theta last → IsSameTrail trail other
       × (basis ≡ last)
   one_ended trail other basis last u stop v end =
       let first : u.first ≡ v.first = same_items u.first v.first (one_start p p.rows (map Some u.first) (map Some v.first) u.greedy v.greedy) in
-      let steps : trail.steps ≡ other.steps = same_steps u.first trail.steps other.steps u.lawful
-      (subst (λ b. AreSolvingSteps value p theta b other.steps) (sym first) v.lawful)
+      let steps : map step_of trail.steps ≡ map step_of other.steps = same_steps u.first trail.steps other.steps u.lawful
+      (subst (λ b. AreSolvingSteps p theta b other.steps) (sym first) v.lawful)
       (subst (IsOptimalBasis p theta) (sym u.leads) stop)
       (subst (λ b. IsOptimalBasis p theta (basis_after b other.steps)) (sym first) (subst (IsOptimalBasis p theta) (sym v.leads) end)) in
       let start : trail.start ≡ other.start = u.begins ∙ ap (map Some) first ∙ sym v.begins in
       let rise : trail.rise ≡ other.rise = u.rise ∙ sym v.rise in
       let fall : trail.fall ≡ other.fall = u.fall ∙ sym v.fall in (
-        λ i. record { start = start i; steps = steps i; rise = rise i; fall = fall i },
-        sym u.leads ∙ ap₂ basis_after first steps ∙ v.leads,
+        record { start = start; steps = steps; rise = ap (map step_of) rise; fall = ap (map step_of) fall },
+        sym u.leads ∙ ap (λ b. basis_after b trail.steps) first ∙ same_after v.first trail.steps other.steps steps ∙ v.leads,
       )

@@ -1,17 +1,18 @@
 -- Law. What the laws of the pivot rule say; each is a clause of a function (Barrodale and Roberts 1973).
-use Rattle.std.specs.Prelude.{◌≡◌, ◌≢◌, ℕ, suc, ◌<◌, ◌≤◌, true, List, length, slice_index, if◌then◌else◌, pos}
-use Rattle.rational_laws.specs.Fraction.{Fraction}
+use Rattle.std.specs.Prelude.{◌≡◌, ◌≢◌, ℕ, suc, ◌<◌, ◌≤◌, true, List, length, map, slice_index, if◌then◌else◌, pos}
+use Rattle.rational_laws.specs.Fraction.{Fraction, rational}
 use Rattle.rational_laws.specs.Rational.{ℚ, ◌+ℚ◌, ◌-ℚ◌, ◌*ℚ◌, inverse, whole, ◌≤ℚ◌}
 use Rattle.rational_laws.specs.RationalSums.{sum_ℚ}
 use Rattle.rational_laws.specs.Exchange.{exchanged}
 use Rattle.rational_laws.specs.Selections.{is_among, AreDistinct}
 use Rattle.loss_model.specs.declared.problem.Problem.{Problem}
+use Rattle.loss_model.specs.declared.process.Exchange.{Exchange}
 use Rattle.loss_model.specs.declared.process.Trail.{Trail}
 use Rattle.loss_model.specs.declared.vertex.Vertex.{Vertex}
 use Rattle.loss_model.specs.Sample.{Sample, loss}
 use Rattle.loss_model.specs.Dual.{IsDual}
 use Rattle.loss_model.specs.FullRank.{HasFullRank}
-use Rattle.loss_model.specs.Problem.{value_at, sample}
+use Rattle.loss_model.specs.Problem.{number_at, sample}
 use Rattle.loss_model.specs.Vertex.{dual_value}
 use Rattle.basis_model.specs.Perturbed.{IsOutside, perturbed}
 use Rattle.pivot_model.specs.declared.direction.Direction.{Direction}
@@ -60,19 +61,40 @@ StopHasNoStep =
     → EndsAt p.columns a → EndsAt p.columns b → HasNoNegativeSlope p at a theta → ¬ IsSolvingStep p at b theta j r
 
 -- so a lawful trail that has come to an optimal basis within a limit excludes one that goes on
-abbrev pub TrailIsUnique : {F : Type 0} → (F → Fraction) → Type 0
-TrailIsUnique {F} value =
-    (p : Sample) (theta : ℚ) (trail other : Trail F) (basis : List ℕ) (limit : ℕ) → HasCosts p theta
-    → IsSolvingTrail value p theta trail basis → IsOptimalBasis p theta basis → length trail.steps ≤ limit
-    → ¬ ReachesLimit value p theta limit other
+abbrev pub TrailIsUnique : Type 0
+TrailIsUnique =
+    (p : Sample) (theta : ℚ) (trail other : Trail) (basis : List ℕ) (limit : ℕ) → HasCosts p theta
+    → IsSolvingTrail p theta trail basis → IsOptimalBasis p theta basis → length trail.steps ≤ limit
+    → ¬ ReachesLimit p theta limit other
+
+-- the numbers of a list
+abbrev pub numbers : List Fraction → List ℚ
+numbers xs = map rational xs
+
+-- a step by its numbers
+abbrev pub step_of : Exchange → ℚ × ℕ × ℕ
+step_of s = (rational s.theta, s.position, s.row)
+
+-- two trails have the same rows and numbers
+pub record IsSameTrail (trail other : Trail) : Type 0 where
+  pub start : trail.start ≡ other.start
+  pub steps : map step_of trail.steps ≡ map step_of other.steps
+  pub rise : map step_of trail.rise ≡ map step_of other.rise
+  pub fall : map step_of trail.fall ≡ map step_of other.fall
+
+-- two vertices have the same rows, sides and numbers
+pub record IsSameVertex (v w : Vertex) : Type 0 where
+  pub basis : v.basis ≡ w.basis
+  pub sides : v.sides ≡ w.sides
+  pub coef : numbers v.coef ≡ numbers w.coef
 
 -- and two lawful trails that have each come to an optimal basis are one, and so are their bases
-abbrev pub EndedTrailIsUnique : {F : Type 0} → (F → Fraction) → Type 0
-EndedTrailIsUnique {F} value =
-    (p : Sample) (theta : ℚ) (trail other : Trail F) (basis last : List ℕ) → HasCosts p theta
-    → IsSolvingTrail value p theta trail basis → IsOptimalBasis p theta basis
-    → IsSolvingTrail value p theta other last → IsOptimalBasis p theta last
-    → (trail ≡ other) × (basis ≡ last)
+abbrev pub EndedTrailIsUnique : Type 0
+EndedTrailIsUnique =
+    (p : Sample) (theta : ℚ) (trail other : Trail) (basis last : List ℕ) → HasCosts p theta
+    → IsSolvingTrail p theta trail basis → IsOptimalBasis p theta basis
+    → IsSolvingTrail p theta other last → IsOptimalBasis p theta last
+    → IsSameTrail trail other × (basis ≡ last)
 
 -- in an exchange every residual, for any responses, changes by a multiple of that of the row that enters
 abbrev pub ExchangeChangesResiduals : Type 0
@@ -95,21 +117,21 @@ BasisHasFullRank = (p : Sample) (at : ℕ → ℕ) (a : ℕ → ℕ → ℚ) →
 -- the vertex of a basis without a negative slope, with the dual values of its basic rows, is optimal
 abbrev pub VertexIsOptimal : {F : Type 0} → (F → Fraction) → Problem F → Type 0
 VertexIsOptimal {F} value p =
-    (theta : ℚ) (basis : List ℕ) (a : ℕ → ℕ → ℚ) (v : Vertex F) (basic : List F) → length basis ≡ p.columns
+    (theta : ℚ) (basis : List ℕ) (a : ℕ → ℕ → ℚ) (v : Vertex) (basic : List Fraction) → length basis ≡ p.columns
     → IsBasis (sample value p) (slice_index basis) a → IsVertexAt value p basis a v
     → AreBasicDuals value p theta basis a v basic → HasCosts (sample value p) theta
     → HasNoNegativeSlope (sample value p) (slice_index basis) a theta
-    → IsDual (sample value p) theta (value_at value v.coef) (dual_value value p v basic theta)
+    → IsDual (sample value p) theta (number_at v.coef) (dual_value value p v basic theta)
 
 -- at a basis stands one vertex, and one list of the dual values of its rows
 abbrev pub VertexIsUnique : {F : Type 0} → (F → Fraction) → Problem F → Type 0
 VertexIsUnique {F} value p =
-    (theta : ℚ) (basis : List ℕ) (a b : ℕ → ℕ → ℚ) (v w : Vertex F) (basic other : List F)
+    (theta : ℚ) (basis : List ℕ) (a b : ℕ → ℕ → ℚ) (v w : Vertex) (basic other : List Fraction)
     → IsBasis (sample value p) (slice_index basis) a → IsBasis (sample value p) (slice_index basis) b
     → EndsAt p.columns a → EndsAt p.columns b
     → IsVertexAt value p basis a v → IsVertexAt value p basis b w
     → AreBasicDuals value p theta basis a v basic → AreBasicDuals value p theta basis b w other
-    → (v ≡ w) × (basic ≡ other)
+    → IsSameVertex v w × (numbers basic ≡ numbers other)
 
 -- the perturbed loss begins with the loss of the coefficients
 abbrev pub PerturbedLossBegins : Type 0

@@ -1,6 +1,6 @@
 -- Stated. Lawful trails of solving steps (Barrodale and Roberts 1973).
 use Rattle.std.specs.Prelude.{◌≡◌, ℕ, ◌<◌, List, [], ◌∷◌, length, map, slice_index, slice_set, Some, pos}
-use Rattle.rational_laws.specs.Fraction.{Fraction, rational}
+use Rattle.rational_laws.specs.Fraction.{rational}
 use Rattle.rational_laws.specs.Rational.{ℚ, whole}
 use Rattle.loss_model.specs.declared.process.Exchange.{Exchange}
 use Rattle.loss_model.specs.declared.process.Trail.{Trail}
@@ -22,24 +22,24 @@ pub record AtBasis (p : Sample) (basis : List ℕ) (Q : (ℕ → ℕ → ℚ) �
   pub holds : Q a
 
 -- the basis to which steps lead
-abbrev pub basis_after : {F : Type 0} → List ℕ → List (Exchange F) → List ℕ
+abbrev pub basis_after : List ℕ → List Exchange → List ℕ
 basis_after basis [] = basis
 basis_after basis (s ∷ steps) = basis_after (slice_set basis s.position s.row) steps
 
 -- each step is the solving step at theta of the basis before it
-abbrev pub AreSolvingSteps : {F : Type 0} → (F → Fraction) → Sample → ℚ → List ℕ → List (Exchange F) → Type 0
-AreSolvingSteps value p theta basis [] = Unit {0}
-AreSolvingSteps value p theta basis (s ∷ steps) =
-    (rational (value s.theta) ≡ theta)
+abbrev pub AreSolvingSteps : Sample → ℚ → List ℕ → List Exchange → Type 0
+AreSolvingSteps p theta basis [] = Unit {0}
+AreSolvingSteps p theta basis (s ∷ steps) =
+    (rational s.theta ≡ theta)
     × AtBasis p basis (λ a. IsSolvingStep p (slice_index basis) a theta s.position s.row)
-    × AreSolvingSteps value p theta (slice_set basis s.position s.row) steps
+    × AreSolvingSteps p theta (slice_set basis s.position s.row) steps
 
 -- the trail begins with the greedy basis, goes by solving steps at theta, and leads to the basis
-pub record IsSolvingTrail {F : Type 0} (value : F → Fraction) (p : Sample) (theta : ℚ) (trail : Trail F) (basis : List ℕ) : Type 0 where
+pub record IsSolvingTrail (p : Sample) (theta : ℚ) (trail : Trail) (basis : List ℕ) : Type 0 where
   pub first : List ℕ
   pub begins : trail.start ≡ map Some first
   pub greedy : IsGreedyBasis p first
-  pub lawful : AreSolvingSteps value p theta first trail.steps
+  pub lawful : AreSolvingSteps p theta first trail.steps
   pub leads : basis_after first trail.steps ≡ basis
   pub rise : trail.rise ≡ []
   pub fall : trail.fall ≡ []
@@ -54,8 +54,8 @@ HasSolvingStep p theta basis =
     AtBasis p basis (λ a. (j : ℕ) × (r : ℕ) × IsSolvingStep p (slice_index basis) a theta j r)
 
 -- the lawful trail of the problem has as many steps as the limit says, and one more is left
-pub record ReachesLimit {F : Type 0} (value : F → Fraction) (p : Sample) (theta : ℚ) (limit : ℕ) (trail : Trail F) : Type 0 where
+pub record ReachesLimit (p : Sample) (theta : ℚ) (limit : ℕ) (trail : Trail) : Type 0 where
   pub basis : List ℕ
-  pub lawful : IsSolvingTrail value p theta trail basis
+  pub lawful : IsSolvingTrail p theta trail basis
   pub count : length trail.steps ≡ limit
   pub more : HasSolvingStep p theta basis

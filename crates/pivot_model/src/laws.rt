@@ -21,12 +21,12 @@ pub fn line_search()
 pub fn one_trail<F: Exact>(theta: F)
     ensures step { StepIsUnique }
     ensures stop { StopHasNoStep }
-    ensures trail { TrailIsUnique F.value }
+    ensures trail { TrailIsUnique }
 {}
 
 /// Two lawful trails that have come to bases at which no step is left are one trail, to one basis.
 pub fn one_lawful_trail<F: Exact>(theta: F)
-    ensures { EndedTrailIsUnique F.value }
+    ensures { EndedTrailIsUnique }
 {}
 
 /// What an exchange does to the residuals, and so to every entry of the perturbed ones.

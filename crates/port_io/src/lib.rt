@@ -21,7 +21,11 @@
 //!
 //! match write_all(out, text) {
 //!     Ok(()) => Outcome::Done(report),
-//!     Err(Failed) => Outcome::SinkFault,
+//!     Err(Failed) => {
+//!         let _tried = write_all(err, SINK_LINE);
+//!         drop(report);
+//!         Outcome::SinkFault
+//!     }
 //! }
 //! ```
 #![tactic(auto)]

@@ -1,4 +1,5 @@
 pub mod Covered
-pub mod Making
+pub mod Merged
+pub mod Placed
 pub mod Predicted
 pub mod Rearranged

@@ -26,7 +26,7 @@ abbrev pub RisingStepsStay : Type 0
 RisingStepsStay = (from to : ℚ) (pieces : List Piece) → AreJoined from to pieces → NeverFall (values pieces) → IsRearrangement from to pieces pieces
 
 -- where segments cover a range, a prediction's steps are joined from its low to its high end
-abbrev pub StepsCover : {F : Type 0} → (F → Fraction) → Problem F → List (Segment F) → Type 0
+abbrev pub StepsCover : {F : Type 0} → (F → Fraction) → Problem F → List Segment → Type 0
 StepsCover {F} value p segments =
     (rows : ℕ) (lo hi : ℚ) (x offsets : List F) → Covers rows lo hi (segments_of value p segments)
     → AreJoined lo hi (map (along value x offsets) segments)

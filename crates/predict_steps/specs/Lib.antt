@@ -1,6 +1,6 @@
 pub mod Laid
 pub mod Laws
-pub mod LowestEnds
+pub mod LowestSteps
+pub mod Merging
 pub mod Predictions
 pub mod Rearranged
-pub mod Spills

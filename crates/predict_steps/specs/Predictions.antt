@@ -4,35 +4,30 @@ use Rattle.rational_laws.specs.Fraction.{Fraction, rational}
 use Rattle.rational_laws.specs.Rational.{ℚ, ◌+ℚ◌, ◌*ℚ◌}
 use Rattle.rational_laws.specs.RationalSums.{sum_ℚ}
 use Rattle.loss_model.specs.declared.process.Segment.{Segment}
-use Rattle.loss_model.specs.Problem.{value_at}
-use Rattle.predict_steps.specs.declared.step.RearrangedStep.{RearrangedStep}
+use Rattle.loss_model.specs.Problem.{number_at, value_at}
 use Rattle.predict_steps.specs.declared.step.Step.{Step}
 use Rattle.predict_steps.specs.Rearranged.{Piece}
 
+-- a step as a piece in ℚ
+abbrev pub piece : Step → Piece
+piece s = record { lo = rational s.lo; hi = rational s.hi; value = rational s.value }
+
+abbrev pub pieces : List Step → List Piece
+pieces steps = map piece steps
+
 module _ {F : Type 0} (value : F → Fraction) where
-  -- a step as a piece in ℚ
-  abbrev pub piece : Step F → Piece
-  piece s = record { lo = rational (value s.lo); hi = rational (value s.hi); value = rational (value s.value) }
+  -- the sum of the entries times the coefficients
+  abbrev pub fitted : List F → List Fraction → ℚ
+  fitted x coef = sum_ℚ (length x) (λ k. value_at value x k *ℚ number_at coef k)
 
-  abbrev pub pieces : List (Step F) → List Piece
-  pieces steps = map piece steps
-
-  -- the same of a step of a rearrangement, whose ends are fractions of any size
-  abbrev pub rearranged_piece : RearrangedStep F → Piece
-  rearranged_piece s = record { lo = rational s.lo; hi = rational s.hi; value = rational (value s.value) }
-
-  abbrev pub rearranged_pieces : List (RearrangedStep F) → List Piece
-  rearranged_pieces steps = map rearranged_piece steps
-
-  -- the sum of the entries times the coefficients, plus the offsets
-  abbrev pub prediction : List F → List F → List F → ℚ
-  prediction x offsets coef = sum_ℚ (length x) (λ k. value_at value x k *ℚ value_at value coef k) +ℚ sum_ℚ (length offsets) (value_at value offsets)
+  -- that, plus the offsets
+  abbrev pub prediction : List F → List F → List Fraction → ℚ
+  prediction x offsets coef = fitted x coef +ℚ sum_ℚ (length offsets) (value_at value offsets)
 
   -- the prediction along a segment
-  abbrev pub along : List F → List F → Segment F → Piece
-  along x offsets s =
-      record { lo = rational (value s.lo); hi = rational (value s.hi); value = prediction x offsets s.vertex.coef }
+  abbrev pub along : List F → List F → Segment → Piece
+  along x offsets s = record { lo = rational s.lo; hi = rational s.hi; value = prediction x offsets s.vertex.coef }
 
   -- the steps of a prediction: one along each segment
-  abbrev pub AreSteps : List F → List F → List (Segment F) → List (Step F) → Type 0
+  abbrev pub AreSteps : List F → List F → List Segment → List Step → Type 0
   AreSteps x offsets segments steps = pieces steps ≡ map (along x offsets) segments

@@ -15,6 +15,6 @@ pub fn rearrangement()
 {}
 
 /// Where the segments of a process cover a range, so do the steps of a prediction along them.
-pub fn cover<F: Exact>(problem: &Problem<F>, process: &Process<F>)
+pub fn cover<F: Exact>(problem: &Problem<F>, process: &Process)
     ensures { StepsCover F.value problem.now process.now.segments }
 {}

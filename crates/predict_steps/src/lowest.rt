@@ -1,22 +1,23 @@
-//! That the ends of a rearrangement are in lowest terms.
+//! That the numbers of steps are in lowest terms.
 ghost use Rattle.std.specs.Prelude.{All};
-ghost use Rattle.predict_steps.specs.LowestEnds.{HasLowestEnds};
+ghost use Rattle.predict_steps.specs.LowestSteps.{IsLowestStep};
 
-use crate::step::RearrangedStep;
+use crate::step::Step;
 
 // The law of one step.
-fn lowest_ends<F>(step: &RearrangedStep<F>)
-    ensures { HasLowestEnds step.now }
+fn lowest_step(step: &Step)
+    ensures { IsLowestStep step.now }
 {
     step.lo.lowest();
     step.hi.lowest();
+    step.value.lowest();
 }
 
-/// The law of all steps of a rearrangement: their ends are in lowest terms, as every `Ratio` is.
-pub fn all_lowest_ends<F>(steps: &[RearrangedStep<F>])
-    ensures { All HasLowestEnds steps.now }
+/// The law of all steps: their ends and values are in lowest terms, as every `Ratio` is.
+pub fn all_lowest_steps(steps: &[Step])
+    ensures { All IsLowestStep steps.now }
 {
     for step in steps {
-        lowest_ends(step);
+        lowest_step(step);
     }
 }

@@ -95,14 +95,14 @@ has_side test sides i = option_map_or test (slice_get sides i) false
 -- so do the sides of a vertex whose dual values are feasible
 abbrev pub SidesSplitWeights : {F : Type 0} → (F → Fraction) → Type 0
 SidesSplitWeights {F} value =
-    (p : Problem F) (v : Vertex F) (n : ℕ) (a : ℕ → ℚ) (theta : ℚ) (basic : List F) → HasIntercept (sample value p) n a
+    (p : Problem F) (v : Vertex) (n : ℕ) (a : ℕ → ℚ) (theta : ℚ) (basic : List Fraction) → HasIntercept (sample value p) n a
     → length v.sides ≡ length p.rows → IsFeasible (sample value p) theta (dual_value value p v basic theta)
     → SplitsWeights (sample value p) n theta (has_side is_down v.sides) (has_side is_basic v.sides) (has_side is_up v.sides)
 
 -- and their numbers
 abbrev pub SidesSplitCounts : {F : Type 0} → (F → Fraction) → Type 0
 SidesSplitCounts {F} value =
-    (p : Problem F) (v : Vertex F) (n : ℕ) (a : ℕ → ℚ) (theta : ℚ) (basic : List F) → HasIntercept (sample value p) n a
+    (p : Problem F) (v : Vertex) (n : ℕ) (a : ℕ → ℚ) (theta : ℚ) (basic : List Fraction) → HasIntercept (sample value p) n a
     → ((i : ℕ) → i < n → (sample value p).up1 i ≡ whole (pos 1))
     → length v.sides ≡ length p.rows → IsFeasible (sample value p) theta (dual_value value p v basic theta)
     → SplitsCounts n theta (has_side is_down v.sides) (has_side is_basic v.sides) (has_side is_up v.sides)

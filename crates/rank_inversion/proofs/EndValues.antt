@@ -5,7 +5,7 @@ use Rattle.rank_tableau.proofs.Handed.{value_there}
 use Rattle.rational_laws.specs.Fraction.{Fraction, rational}
 use Rattle.rational_laws.specs.Rational.{ℚ}
 use Rattle.loss_model.specs.declared.vertex.Vertex.{Vertex}
-use Rattle.loss_model.specs.Problem.{value_at}
+use Rattle.loss_model.specs.Problem.{number_at}
 use Rattle.basis_model.specs.Basis.{IsBasis}
 use Rattle.walk_model.specs.Families.{dual_in}
 use Rattle.rank_walk_model.specs.Crossings.{parameter_of}
@@ -17,9 +17,9 @@ use Rattle.rank_inversion.specs.Nexts.{IsValueOfRow}
 use Rattle.rank_inversion.specs.Stations.{sample_at, rows_at, entries_at}
 
 module _ {F : Type 0} (value : F → Fraction) (v : Station F) (basis : IsBasis (sample_at value v) (rows_at value v) (entries_at value v)) (lj : v.course.column < v.tableau.now.problem.columns) where
-  pub values_of : (t : ℚ) (weight : F) → rational (value weight) ≡ parameter_of (way_of v.course.way) t → (vertex : Vertex F) (list : List F) → length list ≡ length vertex.basis.rows
-      → ((k : ℕ) → k < length vertex.basis.rows → IsValueOfRow value v weight (slice_index vertex.basis.rows k) (value_at value list k))
-      → AreValuesOf value vertex (dual_in (family_of value (sample_at value v) v.course) (rows_at value v) (entries_at value v) t) list
+  pub values_of : (t : ℚ) (weight : F) → rational (value weight) ≡ parameter_of (way_of v.course.way) t → (vertex : Vertex) (list : List Fraction) → length list ≡ length vertex.basis.rows
+      → ((k : ℕ) → k < length vertex.basis.rows → IsValueOfRow value v weight (slice_index vertex.basis.rows k) (number_at list k))
+      → AreValuesOf vertex (dual_in (family_of value (sample_at value v) v.course) (rows_at value v) (entries_at value v) t) list
   values_of t weight e vertex list size each =
       record {
         size = size;

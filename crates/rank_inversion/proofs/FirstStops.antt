@@ -1,5 +1,5 @@
 -- All intervals that are asked for, or the first that stops, from the answers of both lists of jobs.
-use Rattle.std.proofs.Common.{◌≡◌, ℕ, zero, suc, ◌+◌, ◌<◌, ◌≤◌, All, List, [], ◌∷◌, ◌++◌, length, get_or, map, None, Some, arith, refl, sym, ap, subst, ◌∙◌}
+use Rattle.std.proofs.Common.{◌≡◌, ℕ, zero, suc, ◌<◌, ◌≤◌, All, List, [], ◌∷◌, ◌++◌, length, get_or, map, None, Some, arith, refl, sym, ap, subst, ◌∙◌}
 use Rattle.std.specs.List.{AllZip, range_with_len}
 use Rattle.std.proofs.lemmas.List.Elements.{All-cons, All-nil}
 use Rattle.rational_laws.specs.Fraction.{Fraction, rational}
@@ -7,12 +7,13 @@ use Rattle.loss_model.specs.declared.interval.Interval.{Interval}
 use Rattle.loss_model.specs.declared.problem.Problem.{Problem}
 use Rattle.loss_model.specs.declared.stop.Stop.{Stop}
 use Rattle.rank_inversion.specs.declared.column_test.Asked.{Asked}
+use Rattle.rank_inversion.specs.Intervals.{HasFactors}
 use Rattle.rank_inversion.specs.Stops.{IsIntervalStop}
 use Rattle.rank_inversion.specs.declared.asks.IntervalStop.{IntervalStop}
 use Rattle.rank_inversion.specs.declared.asks.RankProblem.{RankProblem}
 use Rattle.rank_inversion.specs.declared.asks.StartedAt.{StartedAt}
-use Rattle.rank_inversion.specs.Answers.{IsIntervalAnswer, IsMade, IsStart, IsStartedAt, IsStopOf}
-use Rattle.rank_inversion.specs.AllIntervals.{AreRightIntervals, asked_at, asked_over, IsFirstStop, IsFor}
+use Rattle.rank_inversion.specs.Answers.{IsIntervalAnswer, IsStart, IsStartedAt, IsStopOf}
+use Rattle.rank_inversion.specs.AllIntervals.{AreRightIntervals, asked_at, asked_over, IsFirstStop}
 use Rattle.rank_inversion.specs.Until.{AreAnswered}
 
 -- what is asked at a quantile begins with its first column
@@ -44,7 +45,7 @@ module _ {F : Type 0} (value : F → Fraction) (range : ℕ) (v : RankProblem F)
   IsFirst all s = IsFirstStop value range v.problem.now v.limit all s.asked s.stop
 
   -- the stop of one of all that are asked, behind those that are right
-  first_by : (all earlier later : List (Asked F)) (asked : Asked F) (made : List (Interval F)) (s : IntervalStop F) → all ≡ earlier ++ asked ∷ later
+  first_by : (all earlier later : List (Asked F)) (asked : Asked F) (made : List Interval) (s : IntervalStop F) → all ≡ earlier ++ asked ∷ later
       → AreRightIntervals value v.problem.now v.limit earlier made → IsStopOf value range v asked s → IsFirst all s
   first_by all earlier later asked made s order right h =
       record {
@@ -56,32 +57,22 @@ module _ {F : Type 0} (value : F → Fraction) (range : ℕ) (v : RankProblem F)
         cause = subst (λ (a : Asked F). IsIntervalStop value range v.problem.now a.column (rational (value a.tau)) (rational (value a.crit)) v.limit s.stop) (sym h.same) h.cause;
       }
 
-  -- what is made is right, and is what it is for
-  all_right : (all : List (Asked F)) (made : List (Interval F)) → AllZip (IsMade value v) all made → AreRightIntervals value v.problem.now v.limit all made
-  all_right [] [] h = tt
-  all_right [] (r ∷ made) h = absurd h
-  all_right (a ∷ all) [] h = absurd h
-  all_right (a ∷ all) (r ∷ made) h = (h.0.right, all_right all made h.1)
-
-  all_for : (all : List (Asked F)) (made : List (Interval F)) → AllZip (IsMade value v) all made → All (IsFor v.purpose) made
-  all_for all [] h = All-nil (IsFor v.purpose)
-  all_for [] (r ∷ made) h = absurd h
-  all_for (a ∷ all) (r ∷ made) h = All-cons (IsFor v.purpose) r made h.0.purpose (all_for all made h.1)
+  -- each interval that is made lists its factors
+  pub all_listed : (all : List (Asked F)) (made : List Interval) → AreRightIntervals value v.problem.now v.limit all made → All HasFactors made
+  all_listed all [] h = All-nil HasFactors
+  all_listed [] (r ∷ made) h = absurd h
+  all_listed (a ∷ all) (r ∷ made) h = All-cons HasFactors r made h.0.lawful.listed (all_listed all made h.1)
 
   module _ (taus : List F) (starts : List (StartedAt F)) (same : AllZip (IsStartedAt value v) taus starts) where
     -- an interval stops
-    pub interval_first : (made : List (Interval F)) (s : IntervalStop F) → AreAnswered (IsIntervalAnswer value range v) (asked_of (taus_of starts)) made (Some s) → IsFirst (asked_of taus) s
+    pub interval_first : (made : List Interval) (s : IntervalStop F) → AreAnswered (IsIntervalAnswer value range v) (asked_of (taus_of starts)) made (Some s) → IsFirst (asked_of taus) s
     interval_first made s h =
-        first_by (asked_of taus) h.earlier h.later h.here made s (ap asked_of (sym (same_taus taus starts same)) ∙ h.order) (all_right h.earlier made h.answered) h.stopped
+        first_by (asked_of taus) h.earlier h.later h.here made s (ap asked_of (sym (same_taus taus starts same)) ∙ h.order) h.answered h.stopped
 
     -- nothing stops
-    pub none_stops : (made : List (Interval F)) → AreAnswered (IsIntervalAnswer value range v) (asked_of (taus_of starts)) made None → AreRightIntervals value v.problem.now v.limit (asked_of taus) made
+    pub none_stops : (made : List Interval) → AreAnswered (IsIntervalAnswer value range v) (asked_of (taus_of starts)) made None → AreRightIntervals value v.problem.now v.limit (asked_of taus) made
     none_stops made h =
-        subst (λ l. AreRightIntervals value v.problem.now v.limit (asked_of l) made) (same_taus taus starts same) (all_right (asked_of (taus_of starts)) made h)
-
-    -- and what is made is what it is for
-    pub all_made : (made : List (Interval F)) → AreAnswered (IsIntervalAnswer value range v) (asked_of (taus_of starts)) made None → All (IsFor v.purpose) made
-    all_made made h = all_for (asked_of (taus_of starts)) made h
+        subst (λ l. AreRightIntervals value v.problem.now v.limit (asked_of l) made) (same_taus taus starts same) h
 
 -- the first of all stops
 pub first_first : {F : Type 0} (value : F → Fraction) (range : ℕ) (p : Problem F) (limit : ℕ) (crit : F) (taus : List F) (tau : F) (stop : Stop F) → 0 < length taus → tau ≡ get_or taus 0 tau → 1 ≤ p.columns

@@ -1,5 +1,5 @@
 -- The interval of both walks, and why it stops.
-use Rattle.std.specs.Prelude.{◌≡◌, ◌⊎◌, ◌+◌, ◌≤◌, ◌<◌, ℕ, List, [], length, Some, pos}
+use Rattle.std.specs.Prelude.{◌≡◌, ◌⊎◌, ◌+◌, ◌≤◌, ◌<◌, ℕ, List, [], length, pos}
 use Rattle.std.proofs.Common.{Err, arith, refl, sym, ap, subst, ◌∙◌, inl, inr}
 use Rattle.rational_laws.specs.Fraction.{Fraction, rational}
 use Rattle.rational_laws.specs.Rational.{ℚ, whole, ◌≤ℚ◌}
@@ -9,7 +9,7 @@ use Rattle.loss_model.specs.declared.process.Exchange.{Exchange}
 use Rattle.loss_model.specs.declared.spill.Spill.{Spill}
 use Rattle.loss_model.specs.declared.stop.Stop.{Stop}
 use Rattle.loss_model.specs.declared.stop.Stop.TheVariants.{PivotLimit, Overflow, Dependent}
-use Rattle.loss_model.specs.Problem.{value_at, sample}
+use Rattle.loss_model.specs.Problem.{number_at, sample}
 use Rattle.loss_model.specs.Sample.{Sample}
 use Rattle.loss_model.specs.StartStop.{IsDependent}
 use Rattle.basis_inverse.specs.Square.{inverse_entry}
@@ -29,10 +29,12 @@ use Rattle.rank_steps.specs.declared.way.Way.TheVariants.{Rise, Fall}
 use Rattle.rank_inversion.specs.declared.inversion.Inversion.{Inversion}
 use Rattle.rank_inversion.specs.declared.column_test.Asked.{Asked}
 use Rattle.rank_tableau.specs.declared.walking.Arrival.{Arrival}
+use Rattle.rank_inversion.specs.AllIntervals.{IsRightInterval, IsRightStop}
 use Rattle.rank_inversion.specs.Intervals.{IsExactInterval, IsRankInterval}
 use Rattle.rank_inversion.specs.Inversions.{IsAskable, course_of, trail_with, IsReady, IsStopHere, IsRisen, IsFallen}
 use Rattle.rank_inversion.specs.Stops.{IsBound, IsLimited, IsIntervalStop}
 use Rattle.rank_inversion.specs.Tests.{IsTested}
+use Rattle.rank_inversion.specs.Trails.{joined}
 use Rattle.rank_inversion.specs.Walks.{AreSteps, IsAtLimit, IsSpilled}
 use Rattle.rank_inversion.proofs.Joined.{at_most, asked_costs, lawful_walks, walked_is_risen, interval_is}
 use Rattle.rank_inversion.proofs.NoStep.{walk_is_ended}
@@ -69,16 +71,16 @@ module _ {F : Type 0} (value : F → Fraction) (v : Inversion F) (ready : IsRead
         holds = ready.solution.stop;
       }
 
-  lawful : (up down : List (Exchange F)) → AreSteps value p (course_of v Rise) solved up → AreSteps value p (course_of v Fall) solved down
-      → (down ≡ []) ⊎ HasRisen value q tau j bound (trail_with v up down) solved → IsIntervalTrail value q tau j bound (trail_with v up down) solved
+  lawful : (up down : List Exchange) → AreSteps value p (course_of v Rise) solved up → AreSteps value p (course_of v Fall) solved down
+      → (down ≡ []) ⊎ HasRisen q tau j bound (trail_with v up down) solved → IsIntervalTrail q tau j bound (trail_with v up down) solved
   lawful = lawful_walks value p v.asked ready.askable v.solved.now.trail solved ready.solution.lawful optimal bound
 
-  risen : (up : Arrival F) (down : List (Exchange F)) → IsRisen value v up → HasRisen value q tau j bound (trail_with v up.steps down) solved
+  risen : (up : Arrival) (down : List Exchange) → IsRisen value v up → HasRisen q tau j bound (trail_with v up.steps down) solved
   risen up down h = walked_is_risen value p v.asked ready.askable v.solved.now.trail solved bound up.steps down up.end h.ended.ended
 
   -- ---- stops
 
-  pub rise_limit : (steps none : List (Exchange F)) (left : ℕ) → none ≡ [] → length v.solved.now.trail.steps + left ≡ v.limit → IsAtLimit value p (course_of v Rise) solved left steps
+  pub rise_limit : (steps none : List Exchange) (left : ℕ) → none ≡ [] → length v.solved.now.trail.steps + left ≡ v.limit → IsAtLimit value p (course_of v Rise) solved left steps
       → (range : ℕ) → IsStopHere value range v (PivotLimit v.limit (trail_with v steps none))
   rise_limit steps none left empty count h range =
       subst (λ none. IsStopHere value range v (PivotLimit v.limit (trail_with v steps none))) (sym empty) (
@@ -95,7 +97,7 @@ module _ {F : Type 0} (value : F → Fraction) (v : Inversion F) (ready : IsRead
         ),
       )
 
-  pub rise_spill : (steps none : List (Exchange F)) (left : ℕ) (s : Spill F) (range : ℕ) → none ≡ [] → length v.solved.now.trail.steps + left ≡ v.limit → IsSpilled value p (course_of v Rise) solved range left steps s
+  pub rise_spill : (steps none : List Exchange) (left : ℕ) (s : Spill F) (range : ℕ) → none ≡ [] → length v.solved.now.trail.steps + left ≡ v.limit → IsSpilled value p (course_of v Rise) solved range left steps s
       → IsStopHere value range v (Overflow (trail_with v steps none) s)
   rise_spill steps none left s range empty count h =
       subst (λ none. IsStopHere value range v (Overflow (trail_with v steps none) s)) (sym empty) (
@@ -109,7 +111,7 @@ module _ {F : Type 0} (value : F → Fraction) (v : Inversion F) (ready : IsRead
         },
       )
 
-  pub fall_limit : (up : Arrival F) → IsRisen value v up → (steps : List (Exchange F)) (left : ℕ) → length v.solved.now.trail.steps + (length up.steps + left) ≡ v.limit → IsAtLimit value p (course_of v Fall) solved left steps
+  pub fall_limit : (up : Arrival) → IsRisen value v up → (steps : List Exchange) (left : ℕ) → length v.solved.now.trail.steps + (length up.steps + left) ≡ v.limit → IsAtLimit value p (course_of v Fall) solved left steps
       → (range : ℕ) → IsStopHere value range v (PivotLimit v.limit (trail_with v up.steps steps))
   fall_limit up h steps left count k range = (
     refl,
@@ -125,7 +127,7 @@ module _ {F : Type 0} (value : F → Fraction) (v : Inversion F) (ready : IsRead
     ),
   )
 
-  pub fall_spill : (up : Arrival F) → IsRisen value v up → (steps : List (Exchange F)) (left : ℕ) (s : Spill F) (range : ℕ) → length v.solved.now.trail.steps + (length up.steps + left) ≡ v.limit
+  pub fall_spill : (up : Arrival) → IsRisen value v up → (steps : List Exchange) (left : ℕ) (s : Spill F) (range : ℕ) → length v.solved.now.trail.steps + (length up.steps + left) ≡ v.limit
       → IsSpilled value p (course_of v Fall) solved range left steps s
       → IsStopHere value range v (Overflow (trail_with v up.steps steps) s)
   fall_spill up h steps left s range count k = (
@@ -141,24 +143,16 @@ module _ {F : Type 0} (value : F → Fraction) (v : Inversion F) (ready : IsRead
 
   -- ---- the interval
 
-  module _ (factors : List F) (tested : IsTested value p v.asked (record { asked = v.asked; factors = factors; bound = v.bound })) (up down : Arrival F) (h : IsRisen value v up) (k : IsFallen value v up.steps down) where
-    same_bound : bound ≡ rank_bound tau crit (squared_length q j (value_at value factors))
+  module _ (factors : List Fraction) (tested : IsTested value p v.asked (record { factors = factors; bound = v.bound })) (up down : Arrival) (h : IsRisen value v up) (k : IsFallen value v up.steps down) where
+    same_bound : bound ≡ rank_bound tau crit (squared_length q j (number_at factors))
     same_bound = tested.bound
 
     pub joined_is : IsRankInterval value p j v.asked.tau v.asked.crit v.limit
-        (record {
-          column = j;
-          tau = v.asked.tau;
-          crit = v.asked.crit;
-          low = down.end;
-          high = up.end;
-          projection = Some factors;
-          trail = trail_with v up.steps down.steps;
-        })
+        (joined value v.solved.now.trail v.asked factors up down)
     joined_is =
-        interval_is value p v.asked ready.askable v.solved.now.trail solved (Some factors) (value_at value factors) up.steps down.steps up.end down.end ready.solution.lawful optimal tested.projection tested.positive refl tested.size
-        (subst (λ b. AreWalkingSteps (when_on rise value) (walk rise q tau j) (is_within b) (whole (pos 0)) solved up.steps) same_bound h.ended.walked)
-        (subst (λ b. AreWalkingSteps (when_on fall value) (walk fall q tau j) (is_within b) (whole (pos 0)) solved down.steps) same_bound k.ended.walked)
+        interval_is value p v.asked ready.askable v.solved.now.trail solved factors up down ready.solution.lawful optimal tested.projection tested.positive tested.size
+        (subst (λ b. AreWalkingSteps (when_on rise) (walk rise q tau j) (is_within b) (whole (pos 0)) solved up.steps) same_bound h.ended.walked)
+        (subst (λ b. AreWalkingSteps (when_on fall) (walk fall q tau j) (is_within b) (whole (pos 0)) solved down.steps) same_bound k.ended.walked)
         (subst (λ b. IsWalked value p rise j tau b solved up.steps up.end) same_bound h.ended.ended)
         (subst (λ b. IsWalked value p fall j tau b solved down.steps down.end) same_bound k.ended.ended) v.limit
         (let few : length down.steps ≤ k.left = k.ended.short in let count : length v.solved.now.trail.steps + (length up.steps + k.left) ≡ v.limit = k.count in omega (arith, few, count))
@@ -169,9 +163,9 @@ module _ {F : Type 0} (value : F → Fraction) (p : Problem F) (asked : Asked F)
   abbrev tau' : ℚ
   tau' = rational (value asked.tau)
 
-  module _ (r : Interval F) (h : IsRankInterval value p asked.column asked.tau asked.crit limit r) where
-    same_tau : rational (value r.tau) ≡ tau'
-    same_tau = ap (λ x. rational (value x)) h.tau
+  module _ (r : Interval) (h : IsRankInterval value p asked.column asked.tau asked.crit limit r) where
+    same_tau : rational r.tau ≡ tau'
+    same_tau = ap rational h.tau
 
     is_asked : IsAsked value p r
     is_asked =
@@ -180,14 +174,14 @@ module _ {F : Type 0} (value : F → Fraction) (p : Problem F) (asked : Asked F)
           costs = subst (HasCosts (sample value p)) (sym same_tau) (asked_costs value p asked askable);
           tau_above = subst (λ z. whole (pos 0) ≤ℚ z) (sym same_tau) (at_most (whole (pos 0)) tau' askable.tau_above);
           tau_below = subst (λ z. z ≤ℚ whole (pos 1)) (sym same_tau) (at_most tau' (whole (pos 1)) askable.tau_below);
-          crit = subst (λ (x : F). whole (pos 0) ≤ℚ rational (value x)) (sym h.crit) askable.crit;
+          crit = subst (λ x. whole (pos 0) ≤ℚ rational x) (sym h.crit) askable.crit;
         }
 
-    pub exact_is : IsExactInterval value p asked.column (rational (value asked.tau)) (rational (value asked.crit)) r
+    exact_is : IsExactInterval value p asked.column (rational (value asked.tau)) (rational (value asked.crit)) r
     exact_is =
         subst (λ k. IsExactInterval value p k (rational (value asked.tau)) (rational (value asked.crit)) r) h.column
-        (subst (λ (x : F). IsExactInterval value p r.column (rational (value x)) (rational (value asked.crit)) r) h.tau
-        (subst (λ (x : F). IsExactInterval value p r.column (rational (value r.tau)) (rational (value x)) r) h.crit
+        (subst (λ x. IsExactInterval value p r.column (rational x) (rational (value asked.crit)) r) h.tau
+        (subst (λ x. IsExactInterval value p r.column (rational r.tau) (rational x) r) h.crit
         (exact_interval value p r is_asked h.lawful).exact))
 
     abbrev b : ℚ
@@ -206,28 +200,35 @@ module _ {F : Type 0} (value : F → Fraction) (p : Problem F) (asked : Asked F)
       where
         same : rank_bound tau' (rational (value asked.crit)) (squared_length (sample value p) asked.column h.lawful.factors) ≡ b
         same =
-            ap (λ (x : F). rank_bound (rational (value x)) (rational (value asked.crit)) (squared_length (sample value p) asked.column h.lawful.factors)) (sym h.tau)
-            ∙ ap (λ (x : F). rank_bound (rational (value r.tau)) (rational (value x)) (squared_length (sample value p) asked.column h.lawful.factors)) (sym h.crit)
-            ∙ ap (λ k. rank_bound (rational (value r.tau)) (rational (value r.crit)) (squared_length (sample value p) k h.lawful.factors)) (sym h.column)
+            ap (λ x. rank_bound (rational x) (rational (value asked.crit)) (squared_length (sample value p) asked.column h.lawful.factors)) (sym h.tau)
+            ∙ ap (λ x. rank_bound (rational r.tau) (rational x) (squared_length (sample value p) asked.column h.lawful.factors)) (sym h.crit)
+            ∙ ap (λ k. rank_bound (rational r.tau) (rational r.crit) (squared_length (sample value p) k h.lawful.factors)) (sym h.column)
 
-    pub none_limited : ¬ IsLimited value p asked.column (rational (value asked.tau)) (rational (value asked.crit)) limit
+    none_limited : ¬ IsLimited value p asked.column (rational (value asked.tau)) (rational (value asked.crit)) limit
     none_limited (c, is, (other, reached)) =
-        one_interval value (sample value p) (rational (value r.tau)) r.column b is_asked.costs r.trail other h.lawful.right.solved limit h.lawful.right.lawful
-        (walk_is_ended value p r.column (rational (value r.tau)) b col rise h.lawful.right.solved r.trail.rise r.high h.lawful.right.high)
-        (walk_is_ended value p r.column (rational (value r.tau)) b col fall h.lawful.right.solved r.trail.fall r.low h.lawful.right.low)
+        one_interval (sample value p) (rational r.tau) r.column b is_asked.costs r.trail other h.lawful.right.solved limit h.lawful.right.lawful
+        (walk_is_ended value p r.column (rational r.tau) b col rise h.lawful.right.solved r.trail.rise r.high h.lawful.right.high)
+        (walk_is_ended value p r.column (rational r.tau) b col fall h.lawful.right.solved r.trail.fall r.low h.lawful.right.low)
         h.short
-        (subst (λ (x : F). ReachesIntervalLimit value (sample value p) (rational (value x)) r.column b limit other) (sym h.tau)
-        (subst (λ k. ReachesIntervalLimit value (sample value p) tau' k b limit other) (sym h.column)
-        (subst (λ b. ReachesIntervalLimit value (sample value p) tau' asked.column b limit other) (one_bound c is) reached)))
+        (subst (λ x. ReachesIntervalLimit (sample value p) (rational x) r.column b limit other) (sym h.tau)
+        (subst (λ k. ReachesIntervalLimit (sample value p) tau' k b limit other) (sym h.column)
+        (subst (λ b. ReachesIntervalLimit (sample value p) tau' asked.column b limit other) (one_bound c is) reached)))
 
   -- where a trail reaches the limit the columns are independent
-  not_dependent : (combination : List F) → IsDependent value p combination → ¬ IsLimited value p asked.column (rational (value asked.tau)) (rational (value asked.crit)) limit
+  not_dependent : (combination : List Fraction) → IsDependent value p combination → ¬ IsLimited value p asked.column (rational (value asked.tau)) (rational (value asked.crit)) limit
   not_dependent combination d (c, is, (other, inl r)) =
-      d.dependence.some (full_rank (sample value p) _ r.more.a r.more.is_basis (value_at value combination) d.dependence.zero d.dependence.column d.dependence.within)
+      d.dependence.some (full_rank (sample value p) _ r.more.a r.more.is_basis (number_at combination) d.dependence.zero d.dependence.column d.dependence.within)
   not_dependent combination d (c, is, (other, inr r)) =
-      d.dependence.some (full_rank (sample value p) _ r.lawful.optimal.a r.lawful.optimal.is_basis (value_at value combination) d.dependence.zero d.dependence.column d.dependence.within)
+      d.dependence.some (full_rank (sample value p) _ r.lawful.optimal.a r.lawful.optimal.is_basis (number_at combination) d.dependence.zero d.dependence.column d.dependence.within)
 
-  pub stop_limited : (range : ℕ) (stop : Stop F) → IsIntervalStop value range p asked.column (rational (value asked.tau)) (rational (value asked.crit)) limit stop
-      → IsLimited value p asked.column (rational (value asked.tau)) (rational (value asked.crit)) limit → IsLimitAnswer {A = Interval F} (Err stop)
+  stop_limited : (range : ℕ) (stop : Stop F) → IsIntervalStop value range p asked.column (rational (value asked.tau)) (rational (value asked.crit)) limit stop
+      → IsLimited value p asked.column (rational (value asked.tau)) (rational (value asked.crit)) limit → IsLimitAnswer {A = Interval} (Err stop)
   stop_limited range (Dependent combination) h reached = not_dependent combination h reached
   stop_limited range other h reached = tt
+
+  -- so a lawful interval is the one that is asked for, and such a stop is right
+  pub right_is : (r : Interval) → IsRankInterval value p asked.column asked.tau asked.crit limit r → IsRightInterval value p limit asked r
+  right_is r h = record { exact = exact_is r h; lawful = h; unlimited = none_limited r h }
+
+  pub stop_is : (range : ℕ) (stop : Stop F) → IsIntervalStop value range p asked.column (rational (value asked.tau)) (rational (value asked.crit)) limit stop → IsRightStop value range p limit asked stop
+  stop_is range stop h = record { cause = h; limited = stop_limited range stop h }

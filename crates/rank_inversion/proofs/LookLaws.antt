@@ -44,5 +44,5 @@ module _ {F : Type 0} (value : F → Fraction) (k : Kept F) (c : Course F) where
         short_weaker (IsDualFault value range (length sol.constant) (value_at value sol.constant) (value_at value sol.linear) (tau_of value c)) (IsSpillAt value range k c from) (dual_spill from range) e h
 
     pub duals_are : (duals : List F) → length duals ≡ length sol.constant
-        → ((j : ℕ) → j < length sol.constant → value_at value duals j ≡ value_at value sol.constant j +ℚ (value_at value sol.linear j *ℚ tau_of value c)) → AreDuals value (place value k) (tau_of value c) duals
+        → ((j : ℕ) → j < length sol.constant → value_at value duals j ≡ value_at value sol.constant j +ℚ (value_at value sol.linear j *ℚ tau_of value c)) → AreDuals value (place value k) value (tau_of value c) duals
     duals_are duals size each = duals_here value (place value k) (tau_of value c) sol is duals size each

@@ -1,5 +1,5 @@
 -- Where a walk hands out its end, no step of it is left.
-use Rattle.std.specs.Prelude.{◌≡◌, ◌≤◌, ◌<◌, ℕ, true, false, List, slice_index, pos}
+use Rattle.std.specs.Prelude.{◌≡◌, ◌<◌, ℕ, true, false, List, slice_index, pos}
 use Rattle.std.proofs.Common.{sym, subst, ◌∙◌}
 use Rattle.rational_laws.specs.Fraction.{Fraction}
 use Rattle.rational_laws.specs.Rational.{ℚ, ◌*ℚ◌, whole, ◌≤ℚ◌}
@@ -57,11 +57,11 @@ none_stuck fall p j tau bound at a from lj u k d next stuck t m r step =
     no (sym (subst (λ d. moves p at a k d r ≡ true) same.1 (subst (λ m. moves p at a m step.direction r ≡ true) same.0 step.entering.mover)) ∙ stuck r step.entering.row)
 
 module _ {F : Type 0} (value : F → Fraction) (p : Problem F) (j : ℕ) (tau bound : ℚ) (lj : j < p.columns) where
-  end_has_none : (way : Way) (basis : List ℕ) (a : ℕ → ℕ → ℚ) (from : ℚ) (end : End F) → IsEndAt value p way j tau bound basis a from end
+  end_has_none : (way : Way) (basis : List ℕ) (a : ℕ → ℕ → ℚ) (from : ℚ) (end : End) → IsEndAt value p way j tau bound basis a from end
       → (t : ℚ) (m r : ℕ) → ¬ IsWalkingStep (tested way (sample value p) tau j) (slice_index basis) a (is_within bound) from t m r
   end_has_none way basis a from end h t m r = by end.bound end.beyond h.handed
     where
-      by : (x : Bound F) (y : Beyond F) → IsHandedOut value p way j tau bound (slice_index basis) a from h.u h.k h.d end.vertex end.inside x y
+      by : (x : Bound Fraction) (y : Beyond) → IsHandedOut value p way j tau bound (slice_index basis) a from h.u h.k h.d end.vertex end.inside x y
           → ¬ IsWalkingStep (tested way (sample value p) tau j) (slice_index basis) a (is_within bound) from t m r
       by (Finite x) (Outside f) (coef, inside, outside, beyond) =
           none_beyond (tested way (sample value p) tau j) (slice_index basis) a from bound h.u h.k h.d h.break beyond t m r
@@ -70,15 +70,15 @@ module _ {F : Type 0} (value : F → Fraction) (p : Problem F) (j : ℕ) (tau bo
       by (Finite x) (Ray f) k = absurd k
       by Infinite (Outside f) k = absurd k
 
-  pub walk_is_ended : (way : Way) (solved : List ℕ) (steps : List (Exchange F)) (end : End F) → IsWalked value p way j tau bound solved steps end
-      → IsEndAfter (when_on way value) (tested way (sample value p) tau j) (is_within bound) (whole (pos 0)) solved steps
+  pub walk_is_ended : (way : Way) (solved : List ℕ) (steps : List Exchange) (end : End) → IsWalked value p way j tau bound solved steps end
+      → IsEndAfter (when_on way) (tested way (sample value p) tau j) (is_within bound) (whole (pos 0)) solved steps
   walk_is_ended rise solved steps end w =
       record {
         size = w.size;
         a = w.a;
         is_basis = w.is_basis;
         ends = w.ends;
-        holds = end_has_none rise (basis_after solved steps) w.a (value_after (when_on rise value) (tested rise (sample value p) tau j) (is_within bound) (whole (pos 0)) steps) end w.holds;
+        holds = end_has_none rise (basis_after solved steps) w.a (value_after (when_on rise) (tested rise (sample value p) tau j) (is_within bound) (whole (pos 0)) steps) end w.holds;
       }
   walk_is_ended fall solved steps end w =
       record {
@@ -86,5 +86,5 @@ module _ {F : Type 0} (value : F → Fraction) (p : Problem F) (j : ℕ) (tau bo
         a = w.a;
         is_basis = w.is_basis;
         ends = w.ends;
-        holds = end_has_none fall (basis_after solved steps) w.a (value_after (when_on fall value) (tested fall (sample value p) tau j) (is_within bound) (whole (pos 0)) steps) end w.holds;
+        holds = end_has_none fall (basis_after solved steps) w.a (value_after (when_on fall) (tested fall (sample value p) tau j) (is_within bound) (whole (pos 0)) steps) end w.holds;
       }

@@ -1,11 +1,14 @@
 -- What the inverse of the Gram matrix gives.
-use Rattle.std.specs.Prelude.{◌≡◌, ◌≢◌, ℕ, ◌<◌, pos}
-use Rattle.std.proofs.Common.{sym, subst, ◌∙◌}
+use Rattle.std.specs.Prelude.{◌≡◌, ◌≢◌, ℕ, ◌<◌, List, map, pos}
+use Rattle.std.proofs.Common.{sym, ap, subst, ◌∙◌}
+use Rattle.rational_laws.specs.Fraction.{Fraction}
 use Rattle.rational_laws.specs.Rational.{ℚ, inverse, whole, ◌≤ℚ◌}
 use Rattle.rational_laws.proofs.RationalLaws.{≤ℚ_refl}
 use Rattle.rational_laws.specs.Matrices.{AreInverse}
 use Rattle.loss_model.specs.Strict.{◌<ℚ◌}
+use Rattle.loss_model.specs.Problem.{number_at, value_at}
 use Rattle.loss_model.specs.Sample.{Sample}
+use Rattle.loss_model.proofs.Alike.{same_numbers}
 use Rattle.rank_model.specs.Restricted.{IsProjection, squared_length}
 use Rattle.rank_model.specs.Gram.{gram, projection_of}
 use Rattle.rank_model.proofs.Grams.{projects}
@@ -33,3 +36,7 @@ module _ (p : Sample) (j : ℕ) (a : ℕ → ℕ → ℚ) (within : j < p.column
   pub length_by : (c : ℕ → ℚ) (length : ℚ) → IsProjection p j c → length ≡ squared_length p j c → length ≡ inverse (a j j)
   length_by c length is e =
       e ∙ one_length p j c (projection_of a j) within is (projects p j a within inv).0 ∙ (projects p j a within inv).1
+
+-- factors of any size that are those of a list
+pub read_wide : {F : Type 0} (value : F → Fraction) (xs : List F) (wide : List Fraction) → wide ≡ map value xs → value_at value xs ≡ number_at wide
+read_wide value xs wide is = (λ i k. sym (same_numbers value xs k) i) ∙ ap number_at (sym is)

@@ -3,18 +3,13 @@ use Rattle.std.proofs.Common.{◌<◌, pos}
 use Rattle.rational_laws.specs.Fraction.{Fraction, rational}
 use Rattle.rational_laws.specs.Rational.{whole}
 use Rattle.rational_laws.proofs.OrderLaws.{le_from_not}
-use Rattle.loss_model.specs.declared.interval.Interval.{Interval}
 use Rattle.loss_model.specs.declared.problem.Problem.{Problem}
 use Rattle.loss_model.specs.Problem.{sample}
 use Rattle.pivot_model.specs.Duals.{HasCosts}
 use Rattle.rank_inversion.specs.Inversions.{IsAskable}
 use Rattle.rank_inversion.specs.declared.column_test.Asked.{Asked}
 use Rattle.pivot_model.proofs.DataRows.{data_costs}
-use Rattle.rank_inversion.specs.Intervals.{HasFactors}
-use Rattle.rank_inversion.specs.AllIntervals.{IsFor}
 use Rattle.rank_inversion.specs.RankProblems.{IsInner, IsRankable}
-use Rattle.rank_inversion.specs.declared.asks.Purpose.{Purpose}
-use Rattle.rank_inversion.specs.declared.asks.Purpose.TheVariants.{Report, Certificate}
 
 module _ {F : Type 0} (value : F → Fraction) (p : Problem F) where
   -- what is asked of a problem such as intervals are asked of
@@ -34,8 +29,3 @@ module _ {F : Type 0} (value : F → Fraction) (p : Problem F) where
   inner_costs crit tau rankable inner =
       data_costs (sample value p) (rational (value tau)) (le_from_not (whole (pos 0)) (rational (value tau)) inner.0)
       (le_from_not (rational (value tau)) (whole (pos 1)) inner.1) rankable.data_rows
-
--- an interval that lists its factors is what it is for
-pub listed_for : {F : Type 0} (purpose : Purpose) (r : Interval F) → HasFactors r → IsFor purpose r
-listed_for Report r h = tt
-listed_for Certificate r h = h

@@ -1,9 +1,10 @@
 -- What stands at a basis on a walk, and what is found and handed out there.
-use Rattle.std.specs.Prelude.{◌≡◌, ◌≢◌, ◌⊎◌, ◌↔◌, ℕ, ◌<◌, ◌≤◌, Bool, true, false, List, [], ◌∷◌, length, slice_index, Contains, get_or, Some, None, pos}
+use Rattle.std.specs.Prelude.{◌≡◌, ◌≢◌, ◌⊎◌, ◌↔◌, ℕ, ◌<◌, Bool, true, false, List, [], ◌∷◌, length, map, slice_index, Contains, get_or, Some, None, pos}
 use Rattle.std.specs.List.Sorted.{IsStrictlyIncreasing}
 use Rattle.std.specs.Ordering.{is_gt}
 use Rattle.std.proofs.Common.{refl, sym, ap, ap₂, subst, ◌∙◌, inl, inr, arith}
 use Rattle.gram_matrix.proofs.Rows.{operation}
+use Rattle.loss_model.proofs.Alike.{same_numbers}
 use Rattle.rational_laws.specs.Fraction.{Fraction, rational}
 use Rattle.rational_laws.specs.Solver.{negated, ◌⊠◌, v0}
 use Rattle.rational_laws.specs.Rational.{ℚ, ◌-ℚ◌, ◌*ℚ◌, inverse, whole, ◌≤ℚ◌}
@@ -14,7 +15,7 @@ use Rattle.loss_model.specs.declared.interval.Bound.TheVariants.{Finite, Infinit
 use Rattle.loss_model.specs.declared.spill.Spill.{Spill}
 use Rattle.loss_model.specs.declared.vertex.Vertex.{Vertex}
 use Rattle.loss_model.specs.Sample.{Sample}
-use Rattle.loss_model.specs.Problem.{value_at}
+use Rattle.loss_model.specs.Problem.{number_at}
 use Rattle.loss_model.specs.Spill.{IsOperation, IsTermSpill, AtSome, site_of}
 use Rattle.frac_core.specs.declared.exact.OpKind.TheVariants.{Sub, Div}
 use Rattle.frac_core.specs.Overflow.{Overflows}
@@ -37,9 +38,9 @@ use Rattle.fraction_tableau.specs.Lines.{IsOrderSpill}
 use Rattle.tableau_model.proofs.Tests.{above_test}
 use Rattle.fraction_tableau.proofs.Inverses.{basis_of}
 use Rattle.tableau_model.proofs.Lists.{value_read}
-use Rattle.fraction_tableau.proofs.NextSteps.{standing_by}
+use Rattle.fraction_tableau.proofs.NextSteps.{coefficients_by, sides_by}
 use Rattle.fraction_tableau.proofs.Places.{kept_is_place}
-use Rattle.tableau_model.proofs.Vertices.{is_vertex}
+use Rattle.tableau_model.proofs.Vertices.{vertex_by, coefficients_wide}
 use Rattle.rank_walk_model.specs.Crossings.{parameter_of, bound_towards}
 use Rattle.rank_walk_model.specs.RankWalks.{Way, rise, fall, tested, ray}
 use Rattle.rank_walk_model.specs.Ends.{AreValuesOf}
@@ -234,9 +235,9 @@ module _ {F : Type 0} (value : F → Fraction) (v : Station F) where
             (subst (λ z. IsTermSpill value range (site_of DualValue k 1 1) (dual_value (sample_at value v) (rows_at value v) (entries_at value v) (tau_of value v.course) k) (entries_at value v v.course.column k) z s) turned h)
 
         -- the values where the column weighs so much
-        pub values_there : (vertex : Vertex F) (list : List F) → length list ≡ length vertex.basis.rows
-            → ((k : ℕ) → k < length vertex.basis.rows → IsValueOfRow value v weight (slice_index vertex.basis.rows k) (value_at value list k))
-            → AreValuesOf value vertex (dual_in (family_of value (sample_at value v) v.course) (rows_at value v) (entries_at value v) (rational (value b.theta))) list
+        pub values_there : (vertex : Vertex) (list : List Fraction) → length list ≡ length vertex.basis.rows
+            → ((k : ℕ) → k < length vertex.basis.rows → IsValueOfRow value v weight (slice_index vertex.basis.rows k) (number_at list k))
+            → AreValuesOf vertex (dual_in (family_of value (sample_at value v) v.course) (rows_at value v) (entries_at value v) (rational (value b.theta))) list
         values_there vertex list size each =
             values_of value v basis_there here.column (rational (value b.theta)) weight turned vertex list size each
 
@@ -245,9 +246,9 @@ module _ {F : Type 0} (value : F → Fraction) (v : Station F) where
           entered_here value range (sample_at value v) v.course.column (tau_of value v.course) (bound_of value v.course) (rows_at value v) (entries_at value v) (parameter_at value v.course from) s (way_of v.course.way)
           (rational (value from)) refl k lk h
 
-      pub values_entered : (vertex : Vertex F) (list : List F) → length list ≡ length vertex.basis.rows
-          → ((k : ℕ) → k < length vertex.basis.rows → IsValueOfRow value v from (slice_index vertex.basis.rows k) (value_at value list k))
-          → AreValuesOf value vertex (dual_in (family_of value (sample_at value v) v.course) (rows_at value v) (entries_at value v) (parameter_at value v.course from)) list
+      pub values_entered : (vertex : Vertex) (list : List Fraction) → length list ≡ length vertex.basis.rows
+          → ((k : ℕ) → k < length vertex.basis.rows → IsValueOfRow value v from (slice_index vertex.basis.rows k) (number_at list k))
+          → AreValuesOf vertex (dual_in (family_of value (sample_at value v) v.course) (rows_at value v) (entries_at value v) (parameter_at value v.course from)) list
       values_entered vertex list size each =
           values_of value v basis_there here.column (parameter_at value v.course from) from (sym (turned_twice (way_of v.course.way) (rational (value from)))) vertex list size each
 
@@ -257,10 +258,10 @@ module _ {F : Type 0} (value : F → Fraction) (v : Station F) where
             of_ray (rational (value b.theta)) b.position b.direction m found.0 found.1 found.2 lm h
 
         -- the end where the next breakpoint is past the bound
-        pub finite_end_is : IsFound value v from (Past b) → (vertex : Vertex F) → IsVertexAt value v.tableau.now.problem v.tableau.now.rows (entries_at value v) vertex
-            → (end : F) (inside outside : List F) → rational (value end) ≡ coefficient (sample_at value v) (rows_at value v) (entries_at value v) v.course.column
-            → AreValuesOf value vertex (dual_in (family_of value (sample_at value v) v.course) (rows_at value v) (entries_at value v) (parameter_at value v.course from)) inside
-            → AreValuesOf value vertex (dual_in (family_of value (sample_at value v) v.course) (rows_at value v) (entries_at value v) (rational (value b.theta))) outside
+        pub finite_end_is : IsFound value v from (Past b) → (vertex : Vertex) → IsVertexAt value v.tableau.now.problem v.tableau.now.rows (entries_at value v) vertex
+            → (end : Fraction) (inside outside : List Fraction) → rational end ≡ coefficient (sample_at value v) (rows_at value v) (entries_at value v) v.course.column
+            → AreValuesOf vertex (dual_in (family_of value (sample_at value v) v.course) (rows_at value v) (entries_at value v) (parameter_at value v.course from)) inside
+            → AreValuesOf vertex (dual_in (family_of value (sample_at value v) v.course) (rows_at value v) (entries_at value v) (rational (value b.theta))) outside
             → IsEndHere value v from (record { bound = Finite end; vertex = vertex; inside = inside; beyond = Outside outside })
         finite_end_is found vertex is end inside outside coef entered left =
             record {
@@ -274,11 +275,11 @@ module _ {F : Type 0} (value : F → Fraction) (v : Station F) where
             }
 
         -- where it is within, and no row moves
-        pub endless_is : IsFound value v from (Stuck b) → (vertex : Vertex F) → IsVertexAt value v.tableau.now.problem v.tableau.now.rows (entries_at value v) vertex
-            → (inside direction : List F)
-            → AreValuesOf value vertex (dual_in (family_of value (sample_at value v) v.course) (rows_at value v) (entries_at value v) (rational (value b.theta))) inside
+        pub endless_is : IsFound value v from (Stuck b) → (vertex : Vertex) → IsVertexAt value v.tableau.now.problem v.tableau.now.rows (entries_at value v) vertex
+            → (inside direction : List Fraction)
+            → AreValuesOf vertex (dual_in (family_of value (sample_at value v) v.course) (rows_at value v) (entries_at value v) (rational (value b.theta))) inside
             → length direction ≡ v.tableau.now.problem.columns
-            → ((m : ℕ) → m < v.tableau.now.problem.columns → value_at value direction m ≡ ray (way_of v.course.way) (entries_at value v) v.course.column b.position m)
+            → ((m : ℕ) → m < v.tableau.now.problem.columns → number_at direction m ≡ ray (way_of v.course.way) (entries_at value v) v.course.column b.position m)
             → IsEndHere value v from (record { bound = Infinite; vertex = vertex; inside = inside; beyond = Ray direction })
         endless_is found vertex is inside direction left size each =
             record {
@@ -294,21 +295,21 @@ module _ {F : Type 0} (value : F → Fraction) (v : Station F) where
     -- ---- the vertex
 
     pub vertex_is : (sorted : List ℕ) → IsStrictlyIncreasing sorted → length sorted ≡ length v.tableau.now.rows → ((i : ℕ) → Contains sorted i ↔ Contains v.tableau.now.rows i)
-        → IsVertexAt value v.tableau.now.problem v.tableau.now.rows (entries_at value v) (record { basis = record { rows = sorted }; sides = v.solution.sides; coef = v.solution.coef })
+        → IsVertexAt value v.tableau.now.problem v.tableau.now.rows (entries_at value v) (record { basis = record { rows = sorted }; sides = v.solution.sides; coef = map value v.solution.coef })
     vertex_is sorted increasing size same =
-        is_vertex value (place value v.tableau.now) (tau_of value v.course) (record { coef = v.solution.coef; sides = v.solution.sides; duals = v.duals }) sorted
-        (kept_is_place value v.tableau.now here.kept)
-        (standing_by value (place value v.tableau.now) (tau_of value v.course) v.solution here.solution v.duals here.duals) increasing size same
+        let h = place value v.tableau.now in
+        vertex_by value h (kept_is_place value v.tableau.now here.kept) (map value v.solution.coef) v.solution.sides
+        (coefficients_wide value h v.solution.coef (coefficients_by value h v.solution here.solution)) (sides_by value h v.solution here.solution) sorted increasing size same
 
-    -- the values by row, as they are picked from those by position
-    pub value_of_row : (weight : F) (values : List F) → IsWeighed value v weight values → (sorted : List ℕ) (basic : List F) (k : ℕ)
-        → HasValueAt value v.tableau.now.rows values sorted basic k → IsValueOfRow value v weight (slice_index sorted k) (value_at value basic k)
-    value_of_row weight values weighed sorted basic k h =
+    -- the values by row, of any size, as they are picked from those by position
+    pub value_of_row : (weight : F) (values : List F) → IsWeighed value v weight values → (sorted : List ℕ) (ordered : List F) (basic : List Fraction) → basic ≡ map value ordered → (k : ℕ)
+        → HasValueAt value v.tableau.now.rows values sorted ordered k → IsValueOfRow value v weight (slice_index sorted k) (number_at basic k)
+    value_of_row weight values weighed sorted ordered basic wide k h =
         let within : h.position < v.tableau.now.problem.columns = let size : length v.tableau.now.rows ≡ v.tableau.now.problem.columns = here.kept.inverse.size in let inside : h.position < length v.tableau.now.rows = h.within in
         omega (arith, size, inside) in
         record {
           position = h.position;
           within = within;
           holds = h.holds;
-          same = h.same ∙ weighed.each h.position within;
+          same = ap (λ l. number_at l k) wide ∙ same_numbers value ordered k ∙ h.same ∙ weighed.each h.position within;
         }

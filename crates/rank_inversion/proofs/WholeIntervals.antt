@@ -13,7 +13,7 @@ use Rattle.rank_inversion.specs.declared.column_test.Asked.{Asked}
 use Rattle.rank_inversion.specs.declared.wholes.Started.{Started}
 use Rattle.rank_inversion.specs.Intervals.{IsRankInterval}
 use Rattle.rank_inversion.specs.Inversions.{IsAskable}
-use Rattle.rank_inversion.specs.Trails.{with_walks}
+use Rattle.rank_inversion.specs.Trails.{joined}
 use Rattle.rank_inversion.specs.Wholes.{IsStarted, AreSidesOf}
 use Rattle.rank_inversion.proofs.Joined.{interval_is}
 
@@ -34,22 +34,14 @@ module _ {F : Type 0} (value : F → Fraction) (s : Started F) (asked : Asked F)
           holds = h.reached.stop;
         }
 
-    pub whole_interval : IsAskable value p asked → (w : BothSides F) → AreSidesOf value s asked limit w
+    pub whole_interval : IsAskable value p asked → (w : BothSides) → AreSidesOf value s asked limit w
         → IsRankInterval value p asked.column asked.tau asked.crit limit
-        (record {
-          column = asked.column;
-          tau = asked.tau;
-          crit = asked.crit;
-          low = w.fall.end;
-          high = w.rise.end;
-          projection = w.factors;
-          trail = with_walks s.reached.trail w.rise.steps w.fall.steps;
-        })
+        (joined value s.reached.trail asked w.factors w.rise w.fall)
     whole_interval askable w sides =
         let made : length s.reached.trail.steps ≤ limit = h.reached.short in
         let few : length w.rise.steps + length w.fall.steps ≤ limit - length s.reached.trail.steps = sides.short in
-        interval_is value p asked askable s.reached.trail s.reached.tableau.rows w.factors sides.factors w.rise.steps w.fall.steps w.rise.end w.fall.end h.reached.lawful optimal sides.projection sides.positive
-        sides.listed sides.size sides.rise.walked sides.fall.walked sides.rise.ended sides.fall.ended limit (omega (arith, made, few))
+        interval_is value p asked askable s.reached.trail s.reached.tableau.rows w.factors w.rise w.fall h.reached.lawful optimal sides.projection sides.positive sides.size
+        sides.rise.walked sides.fall.walked sides.rise.ended sides.fall.ended limit (omega (arith, made, few))
 
 -- what was begun for a problem is of that problem
 module _ {F : Type 0} (value : F → Fraction) (p : Problem F) (s : Started F) (asked : Asked F) (limit : ℕ) (h : IsStarted value p (rational (value asked.tau)) limit s) where
@@ -59,5 +51,5 @@ module _ {F : Type 0} (value : F → Fraction) (p : Problem F) (s : Started F) (
   pub askable_there : IsAskable value p asked → IsAskable value s.reached.tableau.problem asked
   askable_there askable = subst (λ q. IsAskable value q asked) (sym h.reached.problem) askable
 
-  pub interval_here : (r : Interval F) → IsRankInterval value s.reached.tableau.problem asked.column asked.tau asked.crit limit r → IsRankInterval value p asked.column asked.tau asked.crit limit r
+  pub interval_here : (r : Interval) → IsRankInterval value s.reached.tableau.problem asked.column asked.tau asked.crit limit r → IsRankInterval value p asked.column asked.tau asked.crit limit r
   interval_here r is = subst (λ q. IsRankInterval value q asked.column asked.tau asked.crit limit r) h.reached.problem is

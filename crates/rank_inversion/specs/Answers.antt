@@ -5,7 +5,7 @@ use Rattle.loss_model.specs.declared.interval.Interval.{Interval}
 use Rattle.rank_inversion.specs.Wholes.{IsStarted}
 use Rattle.rank_inversion.specs.Stops.{IsIntervalStop}
 use Rattle.rank_inversion.specs.declared.column_test.Asked.{Asked}
-use Rattle.rank_inversion.specs.AllIntervals.{IsFor, IsRightInterval}
+use Rattle.rank_inversion.specs.AllIntervals.{IsRightInterval}
 use Rattle.rank_inversion.specs.RankProblems.{IsInner}
 use Rattle.rank_inversion.specs.declared.asks.IntervalStop.{IntervalStop}
 use Rattle.rank_inversion.specs.declared.asks.RankProblem.{RankProblem}
@@ -31,12 +31,7 @@ module _ {F : Type 0} (value : F → Fraction) where
     pub same : s.asked ≡ asked
     pub cause : IsIntervalStop value range v.problem.now asked.column (rational (value asked.tau)) (rational (value asked.crit)) v.limit s.stop
 
-  -- the interval is the one that is asked for, and is what it is for
-  pub record IsMade (v : RankProblem F) (asked : Asked F) (interval : Interval F) : Type 0 where
-    pub right : IsRightInterval value v.problem.now v.limit asked interval
-    pub purpose : IsFor v.purpose interval
-
-  -- it is such an interval, or its stop
-  abbrev pub IsIntervalAnswer : ℕ → RankProblem F → Asked F → Result (Interval F) (IntervalStop F) → Type 0
-  IsIntervalAnswer range v asked (Ok interval) = IsMade v asked interval
+  -- the interval is the one that is asked for, or it is its stop
+  abbrev pub IsIntervalAnswer : ℕ → RankProblem F → Asked F → Result Interval (IntervalStop F) → Type 0
+  IsIntervalAnswer range v asked (Ok interval) = IsRightInterval value v.problem.now v.limit asked interval
   IsIntervalAnswer range v asked (Err s) = IsStopOf range v asked s

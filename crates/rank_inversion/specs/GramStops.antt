@@ -29,7 +29,7 @@ module _ {F : Type 0} (value : F → Fraction) (p : Problem F) where
     pub inverse : IsGramInverse value p g.inverse
 
   -- the trail is that start, without a step
-  pub record IsGramTrail (trail : Trail F) : Type 0 where
+  pub record IsGramTrail (trail : Trail) : Type 0 where
     pub basis : List ℕ
     pub begins : trail.start ≡ map Some basis
     pub start : IsGramBasis basis
@@ -62,7 +62,7 @@ module _ {F : Type 0} (value : F → Fraction) (range : ℕ) (p : Problem F) (j 
       × (IsProjectingSpill value range p.columns a j s ⊎ IsBoundSpill value range tau crit (inverse (a j j)) s)
 
   -- with the start of the Gram rows
-  pub record IsTestSpillAfter (trail : Trail F) (s : Spill F) : Type 0 where
+  pub record IsTestSpillAfter (trail : Trail) (s : Spill F) : Type 0 where
     pub start : IsGramTrail value p trail
     pub here : IsTestSpill s
 

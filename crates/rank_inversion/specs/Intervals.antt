@@ -11,23 +11,24 @@ use Rattle.rank_model.specs.Certified.{bound_of}
 use Rattle.rank_walk_model.specs.Intervals.{IsIntervalOf, MeetsConditionsBy}
 
 -- the values between its ends are exactly those that hold
-abbrev pub IsExactInterval : {F : Type 0} → (F → Fraction) → Problem F → ℕ → ℚ → ℚ → Interval F → Type 0
+abbrev pub IsExactInterval : {F : Type 0} → (F → Fraction) → Problem F → ℕ → ℚ → ℚ → Interval → Type 0
 IsExactInterval value p j tau crit r =
-    (xi : ℚ) → (IsAtLeast (bound_of value r.low.bound) xi × IsAtMost (bound_of value r.high.bound) xi)
+    (xi : ℚ) → (IsAtLeast (bound_of r.low.bound) xi × IsAtMost (bound_of r.high.bound) xi)
     ↔ Holds (sample value p) j tau crit xi
 
+-- it lists the factors of its projection
+abbrev pub HasFactors : Interval → Type 0
+HasFactors r = is_some r.projection ≡ true
+
 -- it is that of the column, the quantile and the critical value that were handed in, its trail is lawful
--- and its ends are those of the walks; it meets the conditions of a certificate by the factors of its projection, of which
--- it lists all or none, and is within the limit
-pub record IsRankInterval {F : Type 0} (value : F → Fraction) (p : Problem F) (j : ℕ) (quantile critical : F) (limit : ℕ) (r : Interval F) : Type 0 where
+-- and its ends are those of the walks; it lists the factors of its projection, by which it meets the conditions of a
+-- certificate, and is within the limit
+pub record IsRankInterval {F : Type 0} (value : F → Fraction) (p : Problem F) (j : ℕ) (quantile critical : F) (limit : ℕ) (r : Interval) : Type 0 where
   pub column : r.column ≡ j
-  pub tau : r.tau ≡ quantile
-  pub crit : r.crit ≡ critical
+  pub tau : r.tau ≡ value quantile
+  pub crit : r.crit ≡ value critical
   pub lawful : IsIntervalOf value p r
   pub conditions : MeetsConditionsBy value p r lawful.factors
+  pub listed : HasFactors r
   pub size : IfSome r.projection (λ list. length list ≡ p.columns)
   pub short : length r.trail.steps + length r.trail.rise + length r.trail.fall ≤ limit
-
--- it lists the factors of its projection
-abbrev pub HasFactors : {F : Type 0} → Interval F → Type 0
-HasFactors r = is_some r.projection ≡ true

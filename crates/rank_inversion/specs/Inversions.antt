@@ -35,7 +35,7 @@ abbrev pub course_of : {F : Type 0} → Inversion F → Way → Course F
 course_of v way = record { way = way; column = v.asked.column; tau = v.asked.tau; bound = v.bound }
 
 -- the trail of the solve, with the steps of both walks
-abbrev pub trail_with : {F : Type 0} → Inversion F → List (Exchange F) → List (Exchange F) → Trail F
+abbrev pub trail_with : {F : Type 0} → Inversion F → List Exchange → List Exchange → Trail
 trail_with v = with_walks v.solved.now.trail
 
 module _ {F : Type 0} (value : F → Fraction) where
@@ -57,13 +57,13 @@ module _ {F : Type 0} (value : F → Fraction) where
   IsLeft v left = length v.solved.now.trail.steps + left ≡ v.limit
 
   -- the rising walk is at its end
-  pub record IsRisen (v : Inversion F) (rise : Arrival F) : Type 0 where
+  pub record IsRisen (v : Inversion F) (rise : Arrival) : Type 0 where
     pub left : ℕ
     pub count : IsLeft v left
     pub ended : IsEnded value v.problem.now (course_of v Rise) v.solved.now.basis.rows left rise
 
   -- and then the falling one
-  pub record IsFallen (v : Inversion F) (rise : List (Exchange F)) (fall : Arrival F) : Type 0 where
+  pub record IsFallen (v : Inversion F) (rise : List Exchange) (fall : Arrival) : Type 0 where
     pub left : ℕ
     pub count : IsLeft v (length rise + left)
     pub ended : IsEnded value v.problem.now (course_of v Fall) v.solved.now.basis.rows left fall
@@ -74,7 +74,7 @@ module _ {F : Type 0} (value : F → Fraction) where
     pub count : IsLeft v left
     pub halted : IsHalted value v.problem.now (course_of v Rise) v.solved.now.basis.rows range left halt
 
-  pub record IsFallHalt (range : ℕ) (v : Inversion F) (rise : List (Exchange F)) (halt : WalkHalt F) : Type 0 where
+  pub record IsFallHalt (range : ℕ) (v : Inversion F) (rise : List Exchange) (halt : WalkHalt F) : Type 0 where
     pub left : ℕ
     pub count : IsLeft v (length rise + left)
     pub halted : IsHalted value v.problem.now (course_of v Fall) v.solved.now.basis.rows range left halt

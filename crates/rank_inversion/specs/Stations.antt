@@ -33,7 +33,7 @@ module _ {F : Type 0} (value : F → Fraction) where
   pub record IsStation (v : Station F) : Type 0 where
     pub kept : IsKept value v.tableau.now
     pub solution : IsSolution value (sample_at v) (rows_at v) (entries_at v) v.solution
-    pub duals : AreDuals value (place value v.tableau.now) (tau_of value v.course) v.duals
+    pub duals : AreDuals value (place value v.tableau.now) value (tau_of value v.course) v.duals
     pub column : v.course.column < v.tableau.now.problem.columns
 
   -- where position j meets its bound: at the cost of its row at tau, at what is missing to the bound, or at the

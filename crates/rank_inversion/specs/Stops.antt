@@ -40,22 +40,22 @@ pub data IsRankSpill {F : Type 0} (value : F → Fraction) (range : ℕ) (way : 
 
 module _ {F : Type 0} (value : F → Fraction) (range : ℕ) (p : Problem F) (j : ℕ) (tau bound : ℚ) where
   -- at the basis to which the steps of a walk have led from the solved one
-  abbrev pub IsRankSpillAfter : Way → List ℕ → List (Exchange F) → Spill F → Type 0
+  abbrev pub IsRankSpillAfter : Way → List ℕ → List Exchange → Spill F → Type 0
   IsRankSpillAfter way solved steps s =
       AtBasis (sample value p) (basis_after solved steps)
       (λ a. IsRankSpill value range way (sample value p) j tau bound (slice_index (basis_after solved steps)) a
-      (value_after (when_on way value) (tested way (sample value p) tau j) (is_within bound) (whole (pos 0)) steps) s)
+      (value_after (when_on way) (tested way (sample value p) tau j) (is_within bound) (whole (pos 0)) steps) s)
 
   -- at the last basis of the trail: of the rising walk, or, where that is at its end, of the falling one
-  abbrev pub IsAtWalk : List ℕ → Trail F → Spill F → Type 0
+  abbrev pub IsAtWalk : List ℕ → Trail → Spill F → Type 0
   IsAtWalk solved trail s =
       ((trail.fall ≡ []) × IsRankSpillAfter rise solved trail.rise s)
-      ⊎ (HasRisen value (sample value p) tau j bound trail solved × IsRankSpillAfter fall solved trail.fall s)
+      ⊎ (HasRisen (sample value p) tau j bound trail solved × IsRankSpillAfter fall solved trail.fall s)
 
   -- with a lawful trail within the limit
-  pub record IsWalkSpillAfter (limit : ℕ) (trail : Trail F) (s : Spill F) : Type 0 where
+  pub record IsWalkSpillAfter (limit : ℕ) (trail : Trail) (s : Spill F) : Type 0 where
     pub solved : List ℕ
-    pub lawful : IsIntervalTrail value (sample value p) tau j bound trail solved
+    pub lawful : IsIntervalTrail (sample value p) tau j bound trail solved
     pub short : length trail.steps + length trail.rise + length trail.fall ≤ limit
     pub here : IsAtWalk solved trail s
 
@@ -68,19 +68,19 @@ module _ {F : Type 0} (value : F → Fraction) (p : Problem F) (j : ℕ) (tau cr
 
   -- some trail reaches the limit
   abbrev pub IsLimited : ℕ → Type 0
-  IsLimited limit = (bound : ℚ) × IsBound bound × ((trail : Trail F) × ReachesIntervalLimit value (sample value p) tau j bound limit trail)
+  IsLimited limit = (bound : ℚ) × IsBound bound × ((trail : Trail) × ReachesIntervalLimit (sample value p) tau j bound limit trail)
 
 module _ {F : Type 0} (value : F → Fraction) (range : ℕ) (p : Problem F) (j : ℕ) (tau crit : ℚ) (limit : ℕ) where
   -- a trail in the walks reaches the limit, or an operation overflows there
   abbrev pub IsWalkStop : Stop F → Type 0
   IsWalkStop OutOfMemory = Unit {0}
   IsWalkStop (PivotLimit shown trail) =
-      (shown ≡ limit) × ((bound : ℚ) × IsBound value p j tau crit bound × ReachesIntervalLimit value (sample value p) tau j bound limit trail)
+      (shown ≡ limit) × ((bound : ℚ) × IsBound value p j tau crit bound × ReachesIntervalLimit (sample value p) tau j bound limit trail)
   IsWalkStop (Overflow trail s) = (bound : ℚ) × IsBound value p j tau crit bound × IsWalkSpillAfter value range p j tau bound limit trail s
   IsWalkStop (Dependent combination) = ⊥
 
   -- an operation overflows before the solve, in its start, in the solve, or in a walk
-  abbrev pub IsIntervalSpill : Trail F → Spill F → Type 0
+  abbrev pub IsIntervalSpill : Trail → Spill F → Type 0
   IsIntervalSpill trail s =
       IsGramSpillAfter value range p trail s
       ⊎ (IsTestSpillAfter value range p j tau crit trail s
@@ -93,6 +93,6 @@ module _ {F : Type 0} (value : F → Fraction) (range : ℕ) (p : Problem F) (j 
   abbrev pub IsIntervalStop : Stop F → Type 0
   IsIntervalStop OutOfMemory = Unit {0}
   IsIntervalStop (PivotLimit shown trail) =
-      (shown ≡ limit) × ((bound : ℚ) × IsBound value p j tau crit bound × ReachesIntervalLimit value (sample value p) tau j bound limit trail)
+      (shown ≡ limit) × ((bound : ℚ) × IsBound value p j tau crit bound × ReachesIntervalLimit (sample value p) tau j bound limit trail)
   IsIntervalStop (Overflow trail s) = IsIntervalSpill trail s
   IsIntervalStop (Dependent combination) = IsDependent value p combination

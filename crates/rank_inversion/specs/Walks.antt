@@ -13,6 +13,7 @@ use Rattle.loss_model.specs.Quantities.{IsShortOf}
 use Rattle.basis_inverse.specs.Square.{inverse_entry}
 use Rattle.pivot_model.specs.Steps.{HasNoNegativeSlope}
 use Rattle.walk_model.specs.WalkTrails.{AreWalkingSteps, HasStepAfter, is_within}
+use Rattle.tableau_model.specs.declared.answer.WalkingStep.{WalkingStep}
 use Rattle.fraction_tableau.specs.Kept.{IsKept}
 use Rattle.rank_walk_model.specs.Intervals.{when_on, IsWalked}
 use Rattle.rank_walk_model.specs.Loops.{IsWalking}
@@ -20,6 +21,7 @@ use Rattle.rank_walk_model.specs.RankWalks.{tested}
 use Rattle.rank_inversion.specs.declared.course.Course.{Course}
 use Rattle.rank_inversion.specs.declared.walking.Walk.{Walk}
 use Rattle.rank_tableau.specs.declared.walking.Arrival.{Arrival}
+use Rattle.rank_tableau.specs.Walks.{exchange_of}
 use Rattle.rank_inversion.specs.declared.walking.WalkHalt.{WalkHalt}
 use Rattle.rank_inversion.specs.declared.walking.WalkHalt.TheVariants.{OutOfMemory, PivotLimit, Overflow}
 use Rattle.rank_steps.specs.Ways.{way_of}
@@ -28,7 +30,7 @@ use Rattle.rank_inversion.specs.Looks.{IsStepAt, IsEndOf, IsSpillAt}
 use Rattle.rank_inversion.specs.Stops.{IsRankSpillAfter}
 
 -- the halt that a refusal makes of the steps
-abbrev pub IsHaltOf : {F : Type 0} → Short F → List (Exchange F) → WalkHalt F → Type 0
+abbrev pub IsHaltOf : {F : Type 0} → Short F → List Exchange → WalkHalt F → Type 0
 IsHaltOf NoMemory steps halt = halt ≡ OutOfMemory
 IsHaltOf (Spilled s) steps halt = halt ≡ Overflow steps s
 
@@ -42,16 +44,16 @@ module _ {F : Type 0} (value : F → Fraction) where
 
   -- the walking step is made
   pub record IsAdvanced (c : Course F) (before after : Walk F) : Type 0 where
-    pub step : Exchange F
+    pub step : WalkingStep F
     pub is_step : IsStepAt value before.tableau c before.now step
     pub kept : IsKept value after.tableau
     pub problem : after.tableau.problem ≡ before.tableau.problem
     pub rows : after.tableau.rows ≡ slice_set before.tableau.rows step.position step.row
-    pub steps : after.steps ≡ before.steps ++ step ∷ []
+    pub steps : after.steps ≡ before.steps ++ exchange_of value step ∷ []
     pub now : after.now ≡ step.theta
 
   -- it is made, or the walk is at its end
-  abbrev pub IsAdvancedOrEnded : Course F → Walk F → Walk F → Option (End F) → Type 0
+  abbrev pub IsAdvancedOrEnded : Course F → Walk F → Walk F → Option End → Type 0
   IsAdvancedOrEnded c before after None = IsAdvanced c before after
   IsAdvancedOrEnded c before after (Some end) = (after ≡ before) × IsEndOf value before.tableau c before.now end
 
@@ -69,26 +71,26 @@ module _ {F : Type 0} (value : F → Fraction) where
           w.tableau.rows (inverse_entry value w.tableau.square)
 
     -- they are walking steps
-    abbrev pub AreSteps : List (Exchange F) → Type 0
+    abbrev pub AreSteps : List Exchange → Type 0
     AreSteps steps =
-        AreWalkingSteps (when_on (way_of c.way) value) (tested (way_of c.way) (sample value p) (tau_of value c) c.column) (is_within (bound_of value c))
+        AreWalkingSteps (when_on (way_of c.way)) (tested (way_of c.way) (sample value p) (tau_of value c) c.column) (is_within (bound_of value c))
         (whole (pos 0)) solved steps
 
     -- the steps lead, within the limit, to the end that is handed out
-    pub record IsEnded (limit : ℕ) (w : Arrival F) : Type 0 where
+    pub record IsEnded (limit : ℕ) (w : Arrival) : Type 0 where
       pub walked : AreSteps w.steps
       pub ended : IsWalked value p (way_of c.way) c.column (tau_of value c) (bound_of value c) solved w.steps w.end
       pub short : length w.steps ≤ limit
 
     -- they lead to the limit, and one more is left
-    pub record IsAtLimit (limit : ℕ) (steps : List (Exchange F)) : Type 0 where
+    pub record IsAtLimit (limit : ℕ) (steps : List Exchange) : Type 0 where
       pub walked : AreSteps steps
       pub count : length steps ≡ limit
-      pub more : HasStepAfter (when_on (way_of c.way) value) (tested (way_of c.way) (sample value p) (tau_of value c) c.column) (is_within (bound_of value c))
+      pub more : HasStepAfter (when_on (way_of c.way)) (tested (way_of c.way) (sample value p) (tau_of value c) c.column) (is_within (bound_of value c))
           (whole (pos 0)) solved steps
 
     -- they lead to a basis at which an operation overflows
-    pub record IsSpilled (range limit : ℕ) (steps : List (Exchange F)) (s : Spill F) : Type 0 where
+    pub record IsSpilled (range limit : ℕ) (steps : List Exchange) (s : Spill F) : Type 0 where
       pub walked : AreSteps steps
       pub short : length steps ≤ limit
       pub spill : IsRankSpillAfter value range p c.column (tau_of value c) (bound_of value c) (way_of c.way) solved steps s

@@ -25,5 +25,5 @@ module _ {F : Type 0} (value : F → Fraction) where
     pub gram : HasGram (wholes_of s.reached.tableau) s.gram
 
   -- both walks of the column, within what the solve leaves of the limit
-  abbrev pub AreSidesOf : Started F → Asked F → ℕ → BothSides F → Type 0
+  abbrev pub AreSidesOf : Started F → Asked F → ℕ → BothSides → Type 0
   AreSidesOf s asked limit = AreBothSides value s.reached.tableau (question_of asked) (limit - length s.reached.trail.steps)

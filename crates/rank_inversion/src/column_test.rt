@@ -7,9 +7,10 @@ ghost use Rattle.rank_inversion.specs.GramStops.{IsInverted, IsGramTrail, IsBoun
 ghost use Rattle.rank_inversion.specs.Tests.{IsTested};
 
 use crate::gram::GramInverse;
-use crate::projection::{Projected, project};
+use crate::projection::project;
 use frac_core::{Exact, List, OutOfMemory};
-use loss_model::{Problem, Quantity, Short, Site, Spill, Stop, Trail, minus_at, times_at};
+use loss_model::{Problem, Quantity, Short, Site, Spill, Stop, Trail, minus_at, times_at, widened};
+use ratio::Ratio;
 use std::alloc::Global;
 
 /// What is asked of a column: the quantile, and the critical value of the test.
@@ -24,8 +25,7 @@ pub struct Asked<F> {
 /// its statistic that is within the critical value.
 #[derive(Drop)]
 pub struct RankTest<F> {
-    pub asked: Asked<F>,
-    pub factors: List<F>,
+    pub factors: List<Ratio>,
     pub bound: F,
 }
 
@@ -55,15 +55,13 @@ fn measured<F: Exact>(
     ensures tested { IfOk result (IsTested F.value problem.now asked) }
     ensures spill { IfErr result (IsShortOf (IsTestSpill F.value F.range problem.now asked.column (rational (F.value asked.tau)) (rational (F.value asked.crit)))) }
 {
-    let Projected { factors, length } = project(alloc, problem, &gram.inverse, asked.column)?;
-    match bound_by(asked, length) {
-        Ok(bound) => Ok(RankTest {
-            asked,
-            factors,
-            bound,
-        }),
-        Err(spill) => Err(Short::Overflow(spill)),
-    }
+    let projected = project(alloc, problem, &gram.inverse, asked.column)?;
+    let bound = match bound_by(asked, projected.length) {
+        Ok(bound) => bound,
+        Err(spill) => return Err(Short::Overflow(spill)),
+    };
+    let factors = widened(alloc, projected.factors.as_slice())?;
+    Ok(RankTest { factors, bound })
 }
 
 /// The rows of a start in which every position holds one.
@@ -82,7 +80,7 @@ fn gram_trail<F: Exact>(
     alloc: Global,
     problem: &Problem<F>,
     gram: &GramInverse<F>,
-) -> Result<Trail<F>, OutOfMemory>
+) -> Result<Trail, OutOfMemory>
     requires gram { IsInverted F.value problem.now gram.now }
     ensures { IfOk result (IsGramTrail F.value problem.now) }
 {

@@ -2,7 +2,7 @@
 ghost use Rattle.std.specs.Prelude.{◌≡◌, ◌≢◌, ℕ, ◌<◌, length, slice_index, Contains, IfOk, IfErr, pos};
 ghost use Rattle.rational_laws.specs.Fraction.{rational};
 ghost use Rattle.rational_laws.specs.Rational.{whole};
-ghost use Rattle.loss_model.specs.Problem.{value_at};
+ghost use Rattle.loss_model.specs.Problem.{number_at};
 ghost use Rattle.loss_model.specs.Quantities.{IsShortOf};
 ghost use Rattle.loss_model.specs.Spill.{AtSome};
 ghost use Rattle.walk_model.specs.Families.{IsOptimalIn};
@@ -14,9 +14,10 @@ ghost use Rattle.rank_inversion.specs.Nexts.{IsFound, IsSpillHere, weighed_value
 
 use crate::station::Station;
 use frac_core::{Exact, List};
-use loss_model::{Exchange, Quantity, Short, Site, Spill, over_at, plus_product, times_at};
+use loss_model::{Quantity, Short, Site, Spill, over_at, plus_product, times_at, widened};
 use rank_tableau::Finding;
-use tableau_model::by_row;
+use ratio::Ratio;
+use tableau_model::{WalkingStep, by_row};
 
 impl<'a, F: Exact> Station<'a, F> {
     /// What is left at the basis, which the walk entered where the column weighed so much.
@@ -39,7 +40,7 @@ impl<'a, F: Exact> Station<'a, F> {
             .tableau
             .first_mover(&self.solution, next.position, next.direction)
         {
-            Ok(Some(row)) => Ok(Finding::Step(Exchange {
+            Ok(Some(row)) => Ok(Finding::Step(WalkingStep {
                 theta: weight,
                 position: next.position,
                 row,
@@ -77,16 +78,17 @@ impl<'a, F: Exact> Station<'a, F> {
     }
 
     /// Those of the basic rows, in the order of the sorted rows.
-    pub fn basic_values(&self, sorted: &[u32], weight: F) -> Result<List<F>, Short<F>>
+    pub fn basic_values(&self, sorted: &[u32], weight: F) -> Result<List<Ratio>, Short<F>>
         requires station { IsStation F.value self.now }
         requires members { (k : ℕ) → k < length sorted.now → Contains self.now.tableau.now.rows (slice_index sorted.now k) }
         ensures size { IfOk result (λ basic. length basic ≡ length sorted.now) }
-        ensures each { IfOk result (λ basic. (k : ℕ) → k < length sorted.now → IsValueOfRow F.value self.now weight (slice_index sorted.now k) (value_at F.value basic k)) }
+        ensures each { IfOk result (λ basic. (k : ℕ) → k < length sorted.now → IsValueOfRow F.value self.now weight (slice_index sorted.now k) (number_at basic k)) }
         ensures spill { IfErr result (IsShortOf (λ s. AtSome self.now.tableau.now.problem.columns (λ j. IsWeighingSpill F.value F.range self.now weight j s))) }
     {
         let values = self.values(weight)?;
         let rows = self.tableau.basis().rows.as_slice();
-        let basic = by_row(self.tableau.alloc(), rows, sorted, values.as_slice())?;
+        let ordered = by_row(self.tableau.alloc(), rows, sorted, values.as_slice())?;
+        let basic = widened(self.tableau.alloc(), ordered.as_slice())?;
         Ok(basic)
     }
 
@@ -107,18 +109,19 @@ impl<'a, F: Exact> Station<'a, F> {
     }
 
     /// The direction of the coefficients as the row at a position leaves, scaled at the tested column.
-    pub fn ray(&self, position: u32) -> Result<List<F>, Short<F>>
+    pub fn ray(&self, position: u32) -> Result<List<Ratio>, Short<F>>
         requires station { IsStation F.value self.now }
         requires position { position < self.now.tableau.now.problem.columns }
         requires some { entries_at F.value self.now self.now.course.column position ≢ whole (pos 0) }
         ensures size { IfOk result (λ made. length made ≡ self.now.tableau.now.problem.columns) }
-        ensures each { IfOk result (λ made. (m : ℕ) → m < self.now.tableau.now.problem.columns → value_at F.value made m ≡ ray (way_of self.now.course.way) (entries_at F.value self.now) self.now.course.column position m) }
+        ensures each { IfOk result (λ made. (m : ℕ) → m < self.now.tableau.now.problem.columns → number_at made m ≡ ray (way_of self.now.course.way) (entries_at F.value self.now) self.now.course.column position m) }
         ensures spill { IfErr result (IsShortOf (λ s. AtSome self.now.tableau.now.problem.columns (λ m. IsRaySpill F.value F.range self.now position m s))) }
     {
         let mut made = List::new(self.tableau.alloc());
         for column in 0..self.tableau.columns() {
             let entry = self.ray_entry(column, position)?;
-            made.add(entry)?;
+            let number = Ratio::widen(self.tableau.alloc(), entry)?;
+            made.add(number)?;
         }
         Ok(made)
     }

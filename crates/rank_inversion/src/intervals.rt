@@ -5,7 +5,8 @@ ghost use Rattle.rational_laws.specs.Fraction.{rational};
 ghost use Rattle.frac_core.specs.Values.{value};
 ghost use Rattle.rank_inversion.specs.Jobs.{range};
 ghost use Rattle.rank_inversion.specs.Answers.{IsIntervalAnswer, IsStart, IsStartedAt};
-ghost use Rattle.rank_inversion.specs.AllIntervals.{AreRightIntervals, asked_at, asked_over, IsFirstStop, IsFor};
+ghost use Rattle.rank_inversion.specs.AllIntervals.{AreRightIntervals, asked_at, asked_over, IsFirstStop};
+ghost use Rattle.rank_inversion.specs.Intervals.{HasFactors};
 ghost use Rattle.rank_inversion.specs.RankProblems.{IsInner, IsRankable, IsRankProblem, IsSolvable};
 ghost use Rattle.rank_inversion.specs.Until.{AreAnswered};
 
@@ -151,7 +152,7 @@ impl<'a> RankProblem<'a, Frac128> {
         alloc: Global,
         starts: &[StartedAt<'a, Frac128>],
         gate: &G,
-    ) -> Result<UntilStop<Interval<Frac128>, IntervalStop<Frac128>>, OutOfMemory>
+    ) -> Result<UntilStop<Interval, IntervalStop<Frac128>>, OutOfMemory>
         requires ready { IsRankProblem value self.now }
         requires starts { All (IsStart value self.now) starts.now }
         ensures { IfOk result (λ until. AreAnswered (IsIntervalAnswer value range self.now) (asked_over self.now.crit self.now.problem.now.columns (map (λ at. at.tau) starts.now)) until.done.items until.stop) }
@@ -168,12 +169,12 @@ impl<'a> RankProblem<'a, Frac128> {
         alloc: Global,
         taus: &[Frac128],
         gate: &G,
-    ) -> Result<List<Interval<Frac128>>, IntervalStop<Frac128>>
+    ) -> Result<List<Interval>, IntervalStop<Frac128>>
         requires ready { IsRankProblem value self.now }
         requires taus { All (λ tau. IsInner (rational (value tau))) taus.now }
         requires some { 0 < length taus.now }
         ensures right { IfOk result (AreRightIntervals value self.now.problem.now self.now.limit (asked_over self.now.crit self.now.problem.now.columns taus.now)) }
-        ensures purpose { IfOk result (All (IsFor self.now.purpose)) }
+        ensures listed { IfOk result (All HasFactors) }
         ensures stopped { IfErr result (λ s. IsFirstStop value range self.now.problem.now self.now.limit (asked_over self.now.crit self.now.problem.now.columns taus.now) s.asked s.stop) }
     {
         let starts = match self.starts(rt, alloc, taus) {
@@ -194,19 +195,19 @@ impl<'a> RankProblem<'a, Frac128> {
 
 /// The rank intervals of a problem of data rows for a critical value, at the quantiles as given and column
 /// by column within; or the first of them that stops. Each interval is a job, which enters the gate with its
-/// place in this order before it works. The limit counts the pivots of each interval. For a certificate each of them
-/// lists the factors of its projection, and one whose factors have no numbers of 128 bits stops.
+/// place in this order before it works. The limit counts the pivots of each interval. Each lists the factors of its
+/// projection, as a certificate has them.
 pub fn all_intervals<R: Threads + Sync, G: Gate>(
     rt: &R,
     alloc: Global,
     problem: &Problem<Frac128>,
     asks: &RankAsks<Frac128>,
     gate: &G,
-) -> Result<List<Interval<Frac128>>, IntervalStop<Frac128>>
+) -> Result<List<Interval>, IntervalStop<Frac128>>
     requires rankable { IsRankable value problem.now asks.now.crit }
     requires taus { All (λ tau. IsInner (rational (value tau))) asks.now.taus.now }
     ensures right { IfOk result (AreRightIntervals value problem.now asks.now.limit (asked_over asks.now.crit problem.now.columns asks.now.taus.now)) }
-    ensures purpose { IfOk result (All (IsFor asks.now.purpose)) }
+    ensures listed { IfOk result (All HasFactors) }
     ensures stopped { IfErr result (λ s. IsFirstStop value range problem.now asks.now.limit (asked_over asks.now.crit problem.now.columns asks.now.taus.now) s.asked s.stop) }
 {
     let Some(_first) = asks.taus.first() else {
@@ -218,7 +219,6 @@ pub fn all_intervals<R: Threads + Sync, G: Gate>(
         setting: &setting,
         crit: asks.crit,
         limit: asks.limit,
-        purpose: asks.purpose,
     };
     let all = ranked.over(rt, alloc, asks.taus, gate);
     drop(setting);

@@ -8,18 +8,18 @@ ghost use Rattle.loss_model.specs.Strict.{◌<ℚ◌};
 ghost use Rattle.loss_model.specs.declared.stop.Stop.TheVariants.{PivotLimit, Overflow};
 ghost use Rattle.fraction_tableau.specs.Kept.{IsKept};
 ghost use Rattle.br_pivot.specs.Solutions.{IsSolution};
-ghost use Rattle.br_pivot.specs.Solves.{IsLimitAnswer};
-ghost use Rattle.rank_inversion.specs.Intervals.{IsExactInterval, HasFactors, IsRankInterval};
-ghost use Rattle.rank_inversion.specs.Stops.{IsIntervalStop, IsWalkStop, IsLimited};
+ghost use Rattle.rank_inversion.specs.AllIntervals.{IsAnswer};
+ghost use Rattle.rank_inversion.specs.Intervals.{IsRankInterval};
+ghost use Rattle.rank_inversion.specs.Stops.{IsWalkStop};
 ghost use Rattle.rank_inversion.specs.Tests.{IsTested};
 ghost use Rattle.rank_inversion.specs.Walks.{IsEnded, IsHalted};
 ghost use Rattle.rank_inversion.specs.Wholes.{IsStarted};
-ghost use Rattle.rank_inversion.specs.Inversions.{IsAskable, IsReady, course_of, trail_with, IsStopHere, IsRisen, IsFallen, IsRiseHalt, IsFallHalt};
+ghost use Rattle.rank_inversion.specs.Inversions.{IsAskable, IsReady, course_of, trail_with, IsStopHere, IsRisen, IsRiseHalt, IsFallHalt};
 
 use crate::column_test::{Asked, RankTest, rank_test};
 use crate::course::Course;
 use crate::gram::gram_inverse;
-use crate::trails::with_walks;
+use crate::trails::{joined, with_walks};
 use crate::walking::{Walk, WalkHalt, walk_to_end};
 use crate::wholes::{Started, start_in_wholes};
 use br_pivot::{Solved, solve_at};
@@ -28,6 +28,7 @@ use fraction_tableau::FractionTableau;
 use loss_model::{Basis, Exchange, Interval, Problem, Spill, Stop, Trail};
 use rank_steps::Way;
 use rank_tableau::Arrival;
+use ratio::Ratio;
 use std::alloc::Global;
 use whole_tableau::setting_of;
 
@@ -70,7 +71,7 @@ impl<'a, F: Exact> Inversion<'a, F> {
     }
 
     /// Walks on a way from the solved basis, with so many steps left.
-    fn walk(&self, alloc: Global, way: Way, left: u32) -> Result<Arrival<F>, WalkHalt<F>>
+    fn walk(&self, alloc: Global, way: Way, left: u32) -> Result<Arrival, WalkHalt<F>>
         requires ready { IsReady F.value self.now }
         ensures ended { IfOk result (IsEnded F.value self.now.problem.now (course_of self.now way) self.now.solved.now.basis.rows left) }
         ensures halted { IfErr result (IsHalted F.value self.now.problem.now (course_of self.now way) self.now.solved.now.basis.rows F.range left) }
@@ -92,16 +93,16 @@ impl<'a, F: Exact> Inversion<'a, F> {
     fn trail(
         &self,
         alloc: Global,
-        rise: List<Exchange<F>>,
-        fall: List<Exchange<F>>,
-    ) -> Result<Trail<F>, OutOfMemory>
+        rise: List<Exchange>,
+        fall: List<Exchange>,
+    ) -> Result<Trail, OutOfMemory>
         ensures { IfOk result (λ t. t ≡ trail_with self.now rise fall) }
     {
         with_walks(alloc, &self.solved.trail, rise, fall)
     }
 
     /// The stop where a walk reaches the limit, after these steps of both walks.
-    fn limit_stop(&self, alloc: Global, rise: List<Exchange<F>>, fall: List<Exchange<F>>) -> Stop<F>
+    fn limit_stop(&self, alloc: Global, rise: List<Exchange>, fall: List<Exchange>) -> Stop<F>
         requires { IsStopHere F.value F.range self.now (PivotLimit self.now.limit (trail_with self.now rise fall)) }
         ensures { IsStopHere F.value F.range self.now result }
     {
@@ -118,8 +119,8 @@ impl<'a, F: Exact> Inversion<'a, F> {
     fn spill_stop(
         &self,
         alloc: Global,
-        rise: List<Exchange<F>>,
-        fall: List<Exchange<F>>,
+        rise: List<Exchange>,
+        fall: List<Exchange>,
         spill: Spill<F>,
     ) -> Stop<F>
         requires { IsStopHere F.value F.range self.now (Overflow (trail_with self.now rise fall) spill) }
@@ -147,7 +148,7 @@ impl<'a, F: Exact> Inversion<'a, F> {
     }
 
     /// The stop for which the falling walk halted, after the rising one.
-    fn fall_stop(&self, alloc: Global, rise: Arrival<F>, halt: WalkHalt<F>) -> Stop<F>
+    fn fall_stop(&self, alloc: Global, rise: Arrival, halt: WalkHalt<F>) -> Stop<F>
         requires ready { IsReady F.value self.now }
         requires risen { IsRisen F.value self.now rise }
         requires halted { IsFallHalt F.value F.range self.now rise.steps halt }
@@ -162,39 +163,11 @@ impl<'a, F: Exact> Inversion<'a, F> {
         }
     }
 
-    /// The interval of both ends, by the factors of the projection.
-    fn joined(
-        &self,
-        alloc: Global,
-        factors: List<F>,
-        rise: Arrival<F>,
-        fall: Arrival<F>,
-    ) -> Result<Interval<F>, OutOfMemory>
-        requires ready { IsReady F.value self.now }
-        requires tested { IsTested F.value self.now.problem.now self.now.asked (record { asked = self.now.asked; factors = factors; bound = self.now.bound }) }
-        requires risen { IsRisen F.value self.now rise }
-        requires fallen { IsFallen F.value self.now rise.steps fall }
-        ensures interval { IfOk result (IsRankInterval F.value self.now.problem.now self.now.asked.column self.now.asked.tau self.now.asked.crit self.now.limit) }
-        ensures listed { IfOk result HasFactors }
-    {
-        let trail = self.trail(alloc, rise.steps, fall.steps)?;
-        Ok(Interval {
-            column: self.asked.column,
-            tau: self.asked.tau,
-            crit: self.asked.crit,
-            low: fall.end,
-            high: rise.end,
-            projection: Some(factors),
-            trail,
-        })
-    }
-
     /// The interval: the rising walk gives the high end, and then the falling one the low end.
-    fn interval(&self, alloc: Global, factors: List<F>) -> Result<Interval<F>, Stop<F>>
+    fn interval(&self, alloc: Global, factors: List<Ratio>) -> Result<Interval, Stop<F>>
         requires ready { IsReady F.value self.now }
-        requires tested { IsTested F.value self.now.problem.now self.now.asked (record { asked = self.now.asked; factors = factors; bound = self.now.bound }) }
+        requires tested { IsTested F.value self.now.problem.now self.now.asked (record { factors = factors; bound = self.now.bound }) }
         ensures interval { IfOk result (IsRankInterval F.value self.now.problem.now self.now.asked.column self.now.asked.tau self.now.asked.crit self.now.limit) }
-        ensures listed { IfOk result HasFactors }
         ensures stopped { IfErr result (IsStopHere F.value F.range self.now) }
     {
         let left = self.limit - self.solved.trail.steps.as_slice().len() as u32;
@@ -207,7 +180,7 @@ impl<'a, F: Exact> Inversion<'a, F> {
             Ok(fall) => fall,
             Err(halt) => return Err(self.fall_stop(alloc, rise, halt)),
         };
-        match self.joined(alloc, factors, rise, fall) {
+        match joined(alloc, &self.solved.trail, self.asked, factors, rise, fall) {
             Ok(interval) => Ok(interval),
             Err(_) => Err(Stop::OutOfMemory),
         }
@@ -223,23 +196,21 @@ pub fn interval_from<F: Exact>(
     alloc: Global,
     problem: &Problem<F>,
     solved: &Solved<F>,
+    asked: Asked<F>,
     test: RankTest<F>,
     limit: u32,
-) -> Result<Interval<F>, Stop<F>>
-    requires asked { IsAskable F.value problem.now test.asked }
-    requires solved { IsSolution F.value problem.now (rational (F.value test.asked.tau)) solved.now }
+) -> Result<Interval, Stop<F>>
+    requires asked { IsAskable F.value problem.now asked }
+    requires solved { IsSolution F.value problem.now (rational (F.value asked.tau)) solved.now }
     requires short { length solved.now.trail.steps ≤ limit }
-    requires tested { IsTested F.value problem.now test.asked test }
-    ensures exact { IfOk result (IsExactInterval F.value problem.now test.asked.column (rational (F.value test.asked.tau)) (rational (F.value test.asked.crit))) }
-    ensures interval { IfOk result (IsRankInterval F.value problem.now test.asked.column test.asked.tau test.asked.crit limit) }
-    ensures listed { IfOk result HasFactors }
-    ensures stopped { IfErr result (IsWalkStop F.value F.range problem.now test.asked.column (rational (F.value test.asked.tau)) (rational (F.value test.asked.crit)) limit) }
-    ensures limited { IsLimited F.value problem.now test.asked.column (rational (F.value test.asked.tau)) (rational (F.value test.asked.crit)) limit → IsLimitAnswer result }
+    requires tested { IsTested F.value problem.now asked test }
+    ensures interval { IfOk result (IsRankInterval F.value problem.now asked.column asked.tau asked.crit limit) }
+    ensures stopped { IfErr result (IsWalkStop F.value F.range problem.now asked.column (rational (F.value asked.tau)) (rational (F.value asked.crit)) limit) }
 {
     let inversion = Inversion {
         problem,
         solved,
-        asked: test.asked,
+        asked,
         bound: test.bound,
         limit,
     };
@@ -255,11 +226,9 @@ fn by_parts<F: Exact>(
     problem: &Problem<F>,
     asked: Asked<F>,
     limit: u32,
-) -> Result<Interval<F>, Stop<F>>
+) -> Result<Interval, Stop<F>>
     requires asked { IsAskable F.value problem.now asked }
-    ensures interval { IfOk result (IsRankInterval F.value problem.now asked.column asked.tau asked.crit limit) }
-    ensures listed { IfOk result HasFactors }
-    ensures stopped { IfErr result (IsIntervalStop F.value F.range problem.now asked.column (rational (F.value asked.tau)) (rational (F.value asked.crit)) limit) }
+    ensures { IsAnswer F.value F.range problem.now limit asked result }
 {
     let gram = match gram_inverse(alloc, problem) {
         Ok(gram) => gram,
@@ -280,7 +249,7 @@ fn by_parts<F: Exact>(
             return Err(stop);
         }
     };
-    match interval_from(alloc, problem, &solved, test, limit) {
+    match interval_from(alloc, problem, &solved, asked, test, limit) {
         Ok(interval) => {
             drop(solved);
             Ok(interval)
@@ -293,53 +262,40 @@ fn by_parts<F: Exact>(
 }
 
 /// The rank interval of a column by its parts alone, whose walks go in fractions: what `interval` comes to where whole
-/// numbers don't suffice. It lists the factors of its projection, so it stops where one of them has no number.
+/// numbers don't suffice.
 pub fn interval_by_parts<F: Exact>(
     alloc: Global,
     problem: &Problem<F>,
     asked: Asked<F>,
     limit: u32,
-) -> Result<Interval<F>, Stop<F>>
+) -> Result<Interval, Stop<F>>
     requires shaped { IsWellShaped problem.now }
     requires column { asked.column < problem.now.columns }
     requires tau_above { whole (pos 0) <ℚ rational (F.value asked.tau) }
     requires tau_below { rational (F.value asked.tau) <ℚ whole (pos 1) }
     requires crit { whole (pos 0) ≤ℚ rational (F.value asked.crit) }
     requires data { (i : ℕ) → i < length problem.now.rows → IsDataRow (sample F.value problem.now) i }
-    ensures exact { IfOk result (IsExactInterval F.value problem.now asked.column (rational (F.value asked.tau)) (rational (F.value asked.crit))) }
-    ensures interval { IfOk result (IsRankInterval F.value problem.now asked.column asked.tau asked.crit limit) }
-    ensures listed { IfOk result HasFactors }
-    ensures stopped { IfErr result (IsIntervalStop F.value F.range problem.now asked.column (rational (F.value asked.tau)) (rational (F.value asked.crit)) limit) }
-    ensures limited { IsLimited F.value problem.now asked.column (rational (F.value asked.tau)) (rational (F.value asked.crit)) limit → IsLimitAnswer result }
+    ensures { IsAnswer F.value F.range problem.now limit asked result }
 {
-    match by_parts(alloc, problem, asked, limit) {
-        Ok(interval) => Ok(interval),
-        Err(stop) => Err(stop),
-    }
+    by_parts(alloc, problem, asked, limit)
 }
 
 /// The interval in whole numbers, or else by its parts.
 fn or_by_parts<F: Exact>(
     alloc: Global,
     problem: &Problem<F>,
-    quick: Option<Interval<F>>,
+    quick: Option<Interval>,
     asked: Asked<F>,
     limit: u32,
-) -> Result<Interval<F>, Stop<F>>
+) -> Result<Interval, Stop<F>>
     requires asked { IsAskable F.value problem.now asked }
     requires quick { IfSome quick (IsRankInterval F.value problem.now asked.column asked.tau asked.crit limit) }
-    ensures exact { IfOk result (IsExactInterval F.value problem.now asked.column (rational (F.value asked.tau)) (rational (F.value asked.crit))) }
-    ensures interval { IfOk result (IsRankInterval F.value problem.now asked.column asked.tau asked.crit limit) }
-    ensures stopped { IfErr result (IsIntervalStop F.value F.range problem.now asked.column (rational (F.value asked.tau)) (rational (F.value asked.crit)) limit) }
-    ensures limited { IsLimited F.value problem.now asked.column (rational (F.value asked.tau)) (rational (F.value asked.crit)) limit → IsLimitAnswer result }
+    ensures { IsAnswer F.value F.range problem.now limit asked result }
 {
     if let Some(interval) = quick {
         return Ok(interval);
     }
-    match by_parts(alloc, problem, asked, limit) {
-        Ok(interval) => Ok(interval),
-        Err(stop) => Err(stop),
-    }
+    by_parts(alloc, problem, asked, limit)
 }
 
 /// The interval of a column from the solve at its quantile, where that is in whole numbers.
@@ -349,7 +305,7 @@ fn interval_by<F: Exact>(
     started: &Option<Started<'_, F>>,
     asked: Asked<F>,
     limit: u32,
-) -> Option<Interval<F>>
+) -> Option<Interval>
     requires asked { IsAskable F.value problem.now asked }
     requires started { IfSome started.now (IsStarted F.value problem.now (rational (F.value asked.tau)) limit) }
     ensures { IfSome result (IsRankInterval F.value problem.now asked.column asked.tau asked.crit limit) }
@@ -372,13 +328,10 @@ pub fn interval_after<F: Exact>(
     started: &Option<Started<'_, F>>,
     asked: Asked<F>,
     limit: u32,
-) -> Result<Interval<F>, Stop<F>>
+) -> Result<Interval, Stop<F>>
     requires asked { IsAskable F.value problem.now asked }
     requires started { IfSome started.now (IsStarted F.value problem.now (rational (F.value asked.tau)) limit) }
-    ensures exact { IfOk result (IsExactInterval F.value problem.now asked.column (rational (F.value asked.tau)) (rational (F.value asked.crit))) }
-    ensures interval { IfOk result (IsRankInterval F.value problem.now asked.column asked.tau asked.crit limit) }
-    ensures stopped { IfErr result (IsIntervalStop F.value F.range problem.now asked.column (rational (F.value asked.tau)) (rational (F.value asked.crit)) limit) }
-    ensures limited { IsLimited F.value problem.now asked.column (rational (F.value asked.tau)) (rational (F.value asked.crit)) limit → IsLimitAnswer result }
+    ensures { IsAnswer F.value F.range problem.now limit asked result }
 {
     let quick = interval_by(alloc, problem, started, asked, limit);
     or_by_parts(alloc, problem, quick, asked, limit)
@@ -391,7 +344,7 @@ pub fn interval_in_wholes<F: Exact>(
     problem: &Problem<F>,
     asked: Asked<F>,
     limit: u32,
-) -> Option<Interval<F>>
+) -> Option<Interval>
     requires shaped { IsWellShaped problem.now }
     requires column { asked.column < problem.now.columns }
     requires tau_above { whole (pos 0) <ℚ rational (F.value asked.tau) }
@@ -426,17 +379,14 @@ pub fn interval<F: Exact>(
     tau: F,
     crit: F,
     limit: u32,
-) -> Result<Interval<F>, Stop<F>>
+) -> Result<Interval, Stop<F>>
     requires shaped { IsWellShaped problem.now }
     requires column { column < problem.now.columns }
     requires tau_above { whole (pos 0) <ℚ rational (F.value tau) }
     requires tau_below { rational (F.value tau) <ℚ whole (pos 1) }
     requires crit { whole (pos 0) ≤ℚ rational (F.value crit) }
     requires data { (i : ℕ) → i < length problem.now.rows → IsDataRow (sample F.value problem.now) i }
-    ensures exact { IfOk result (IsExactInterval F.value problem.now column (rational (F.value tau)) (rational (F.value crit))) }
-    ensures interval { IfOk result (IsRankInterval F.value problem.now column tau crit limit) }
-    ensures stopped { IfErr result (IsIntervalStop F.value F.range problem.now column (rational (F.value tau)) (rational (F.value crit)) limit) }
-    ensures limited { IsLimited F.value problem.now column (rational (F.value tau)) (rational (F.value crit)) limit → IsLimitAnswer result }
+    ensures { IsAnswer F.value F.range problem.now limit (record { column = column; tau = tau; crit = crit }) result }
 {
     let asked = Asked { column, tau, crit };
     let quick = interval_in_wholes(alloc, problem, asked, limit);

@@ -1,6 +1,7 @@
 //! A rank interval as a job for a thread of its own.
 ghost use Rattle.frac_core.specs.Values.{value};
-ghost use Rattle.rank_inversion.specs.Jobs.{IsJobAnswer, range};
+ghost use Rattle.rank_inversion.specs.AllIntervals.{IsAnswer};
+ghost use Rattle.rank_inversion.specs.Jobs.{range};
 
 use crate::inversion::interval;
 use frac_core::{Exact, Frac128};
@@ -39,11 +40,11 @@ impl<'a, F: Exact, G> Model for IntervalJob<'a, F, G> {
 /// It is done over `Frac128`: what an implementation for every type of fractions would hand to a thread isn't
 /// covered by the toolchain yet.
 impl<'a, G: Gate> Work for IntervalJob<'a, Frac128, G> {
-    type Answer = Result<Interval<Frac128>, Stop<Frac128>>;
+    type Answer = Result<Interval, Stop<Frac128>>;
 
-    ghost answers = { λ job answer. IsJobAnswer value range job answer };
+    ghost answers = { λ job answer. IsAnswer value range job.problem job.limit job.asked answer };
 
-    fn work(self) -> Result<Interval<Frac128>, Stop<Frac128>> {
+    fn work(self) -> Result<Interval, Stop<Frac128>> {
         self.gate.enter(self.place);
         interval(
             self.alloc,

@@ -69,11 +69,11 @@ impl<'a, 'b, F: Exact, G> Model for ColumnJob<'a, 'b, F, G> {
 }
 
 impl<'a, 'b, G: Gate> Work for ColumnJob<'a, 'b, Frac128, G> {
-    type Answer = Result<Interval<Frac128>, IntervalStop<Frac128>>;
+    type Answer = Result<Interval, IntervalStop<Frac128>>;
 
     ghost answers = { λ job answer. IsIntervalAnswer value range job.0 job.1 answer };
 
-    fn work(self) -> Result<Interval<Frac128>, IntervalStop<Frac128>> {
+    fn work(self) -> Result<Interval, IntervalStop<Frac128>> {
         self.gate.enter(self.place);
         self.ranked.interval(self.alloc, self.started, self.asked)
     }

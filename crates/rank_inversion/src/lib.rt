@@ -3,13 +3,14 @@
 //!
 //! The one contract for the layers above: `interval` bounds exactly the tested values that hold, with the
 //! lawful trail of the solve and of both walks, and what a certificate states of both ends; or it says what it
-//! had to stop for. Whole numbers answer first, and where they refuse all is done again by its parts, in fractions.
+//! had to stop for. Its numbers are of any size. Whole numbers answer first, and where they refuse all is done again by
+//! its parts, in fractions of limited size.
 //! For intervals of many columns at a quantile there are `start_in_wholes`, once, and `interval_after`, for each.
 //! `IntervalJob` is an interval as a job of `rq_fan`.
 //!
 //! `all_intervals` gives the rank intervals of a problem by jobs at once: a right interval for each that is asked, quantile by
 //! quantile as given, and column by column within, or the first that stops, in the order in which they are asked and not in that in
-//! which the jobs end; for a certificate each lists the factors of its projection. The problem is made whole once. Then the solves in
+//! which the jobs end. The problem is made whole once. Then the solves in
 //! whole numbers are jobs, one for each quantile, and then the walks, one for each quantile and column, from the solve at the
 //! quantile.
 //!
@@ -48,7 +49,7 @@ mod until;
 mod walking;
 mod wholes;
 
-pub use asks::{IntervalStop, Purpose, RankAsks};
+pub use asks::{IntervalStop, RankAsks};
 pub use br_pivot::{Solved, solve_at};
 pub use column_test::{Asked, RankTest, rank_test};
 pub use gram::{GramInverse, gram_inverse};

@@ -20,21 +20,22 @@ use crate::station::Station;
 use basic_solution::BasicSolution;
 use frac_core::{Exact, List, OutOfMemory};
 use fraction_tableau::{FractionTableau, duals_at};
-use loss_model::{Basis, Beyond, Bound, End, Short, Vertex};
+use loss_model::{Basis, Beyond, Bound, End, Short, Vertex, widened};
 use rank_tableau::{Finding, Next};
+use ratio::Ratio;
 use std::alloc::Global;
 use tableau_model::{Breakpoint, ascending};
 
 impl<'a, F: Exact> Station<'a, F> {
     /// The vertex of the basis.
-    fn vertex(&self) -> Result<Vertex<F>, OutOfMemory>
+    fn vertex(&self) -> Result<Vertex, OutOfMemory>
         requires station { IsStation F.value self.now }
         ensures { IfOk result (IsVertexAt F.value self.now.tableau.now.problem self.now.tableau.now.rows (entries_at F.value self.now)) }
     {
         let alloc = self.tableau.alloc();
         let rows = ascending(alloc, self.tableau.basis().rows.as_slice())?;
         let sides = List::copy(alloc, self.solution.sides.as_slice())?;
-        let coef = List::copy(alloc, self.solution.coef.as_slice())?;
+        let coef = widened(alloc, self.solution.coef.as_slice())?;
         Ok(Vertex {
             basis: Basis { rows },
             sides,
@@ -43,7 +44,7 @@ impl<'a, F: Exact> Station<'a, F> {
     }
 
     /// The end where the next breakpoint is beyond the bound.
-    fn finite_end(&self, from: F, next: Breakpoint<F>) -> Result<End<F>, Short<F>>
+    fn finite_end(&self, from: F, next: Breakpoint<F>) -> Result<End, Short<F>>
         requires station { IsStation F.value self.now }
         requires beyond { IsFound F.value self.now from (Past next) }
         ensures end { IfOk result (IsEndHere F.value self.now from) }
@@ -54,7 +55,8 @@ impl<'a, F: Exact> Station<'a, F> {
         let weight = self.course.way.turned(next.theta);
         let outside = self.basic_values(vertex.basis.rows.as_slice(), weight)?;
         let column = self.course.column;
-        let value = self.solution.coef.as_slice()[column as usize];
+        let coef = self.solution.coef.as_slice()[column as usize];
+        let value = Ratio::widen(self.tableau.alloc(), coef)?;
         Ok(End {
             bound: Bound::Finite(value),
             vertex,
@@ -64,7 +66,7 @@ impl<'a, F: Exact> Station<'a, F> {
     }
 
     /// The end where the next breakpoint is within the bound, and no row moves there.
-    fn endless(&self, from: F, next: Breakpoint<F>) -> Result<End<F>, Short<F>>
+    fn endless(&self, from: F, next: Breakpoint<F>) -> Result<End, Short<F>>
         requires station { IsStation F.value self.now }
         requires stuck { IsFound F.value self.now from (Stuck next) }
         ensures end { IfOk result (IsEndHere F.value self.now from) }

@@ -4,24 +4,27 @@ ghost use Rattle.loss_model.specs.Problem.{sample};
 ghost use Rattle.basis_inverse.specs.Square.{inverse_entry};
 ghost use Rattle.pivot_model.specs.Duals.{HasCosts};
 ghost use Rattle.walk_model.specs.Families.{IsOptimalIn};
+ghost use Rattle.rank_tableau.specs.Walks.{exchange_of};
 ghost use Rattle.rank_inversion.specs.Courses.{tau_of, parameter_at, family_of};
 ghost use Rattle.rank_inversion.specs.Looks.{IsStepAt};
 ghost use Rattle.rank_inversion.specs.Walks.{IsBegun, IsAdvanced, IsAdvancedOrEnded, IsKeptShort, IsEnded, IsHalted, IsHaltOf};
 
 use crate::course::Course;
 use crate::look::look;
-use frac_core::{Exact, List};
+use frac_core::{Exact, List, OutOfMemory};
 use fraction_tableau::FractionTableau;
 use loss_model::{End, Exchange, Short, Spill};
 use rank_tableau::{Arrival, Next};
-use tableau_model::Step;
+use ratio::Ratio;
+use std::alloc::Global;
+use tableau_model::{Step, WalkingStep};
 
 /// A walk in its midst: the basis at which it stands, the steps that led there, and what the column
 /// weighed where it entered the basis.
 #[derive(Drop)]
 pub struct Walk<'a, F: Exact> {
     pub tableau: FractionTableau<'a, F>,
-    pub steps: List<Exchange<F>>,
+    pub steps: List<Exchange>,
     pub now: F,
 }
 
@@ -30,16 +33,28 @@ pub struct Walk<'a, F: Exact> {
 pub enum WalkHalt<F> {
     OutOfMemory,
     PivotLimit {
-        steps: List<Exchange<F>>,
+        steps: List<Exchange>,
     },
     Overflow {
-        steps: List<Exchange<F>>,
+        steps: List<Exchange>,
         spill: Spill<F>,
     },
 }
 
+/// A step as the trail has it.
+fn exchange<F: Exact>(alloc: Global, step: WalkingStep<F>) -> Result<Exchange, OutOfMemory>
+    ensures { IfOk result (λ x. x ≡ exchange_of F.value step) }
+{
+    let theta = Ratio::widen(alloc, step.theta)?;
+    Ok(Exchange {
+        theta,
+        position: step.position,
+        row: step.row,
+    })
+}
+
 /// The halt of what is refused.
-fn halted<F: Exact>(short: Short<F>, steps: List<Exchange<F>>) -> WalkHalt<F>
+fn halted<F: Exact>(short: Short<F>, steps: List<Exchange>) -> WalkHalt<F>
     ensures { IsHaltOf short steps result }
 {
     match short {
@@ -50,7 +65,7 @@ fn halted<F: Exact>(short: Short<F>, steps: List<Exchange<F>>) -> WalkHalt<F>
 
 impl<'a, F: Exact> Walk<'a, F> {
     /// Makes the walking step. After a refusal the steps are as before.
-    fn make_step(&mut self, course: &Course<F>, step: Exchange<F>) -> Result<(), Short<F>>
+    fn make_step(&mut self, course: &Course<F>, step: WalkingStep<F>) -> Result<(), Short<F>>
         requires step { IsStepAt F.value self.old.tableau course.now self.old.now step }
         ensures made { OnOk result (IsAdvanced F.value course.now self.old self.new) }
         ensures refused { IfErr result (IsKeptShort F.value F.range course.now self.old self.new) }
@@ -63,7 +78,11 @@ impl<'a, F: Exact> Walk<'a, F> {
             Ok(()) => {}
             Err(short) => return Err(short),
         }
-        match self.steps.push(step) {
+        let exchange = match exchange(self.tableau.alloc(), step) {
+            Ok(exchange) => exchange,
+            Err(_) => return Err(Short::OutOfMemory),
+        };
+        match self.steps.push(exchange) {
             Ok(()) => {}
             Err(_) => return Err(Short::OutOfMemory),
         }
@@ -72,7 +91,7 @@ impl<'a, F: Exact> Walk<'a, F> {
     }
 
     /// Makes the walking step that is left, or gives the end. After a refusal the steps are as before.
-    fn advance(&mut self, course: &Course<F>) -> Result<Option<End<F>>, Short<F>>
+    fn advance(&mut self, course: &Course<F>) -> Result<Option<End>, Short<F>>
         requires column { course.now.column < self.old.tableau.problem.columns }
         requires optimal { IsOptimalIn (family_of F.value (sample F.value self.old.tableau.problem) course.now) (slice_index self.old.tableau.rows) (inverse_entry F.value self.old.tableau.square) (parameter_at F.value course.now self.old.now) }
         ensures next { IfOk result (IsAdvancedOrEnded F.value course.now self.old self.new) }
@@ -89,7 +108,7 @@ impl<'a, F: Exact> Walk<'a, F> {
     }
 
     /// Lets the basis go.
-    fn into_steps(self) -> List<Exchange<F>>
+    fn into_steps(self) -> List<Exchange>
         ensures { result ≡ self.entry.steps }
     {
         let Walk { tableau, steps, .. } = self;
@@ -103,7 +122,7 @@ pub fn walk_to_end<'a, F: Exact>(
     from: Walk<'a, F>,
     course: &Course<F>,
     limit: u32,
-) -> Result<Arrival<F>, WalkHalt<F>>
+) -> Result<Arrival, WalkHalt<F>>
     requires column { course.now.column < from.tableau.problem.columns }
     requires costs { HasCosts (sample F.value from.tableau.problem) (tau_of F.value course.now) }
     requires begun { IsBegun F.value course.now from }

@@ -11,12 +11,12 @@ ghost use Rattle.rank_inversion.specs.Inversions.{IsAskable};
 ghost use Rattle.rank_inversion.specs.Wholes.{IsStarted, AreSidesOf};
 
 use crate::column_test::Asked;
-use crate::trails::with_walks;
+use crate::trails::joined;
 use br_pivot::{Reached, reach_in_wholes};
 use frac_core::{Exact, List};
 use gram_check::whole_gram;
 use loss_model::{Interval, Problem};
-use rank_tableau::{Arrival, BothSides, Question, both_sides};
+use rank_tableau::{BothSides, Question, both_sides};
 use ratio::Integer;
 use std::alloc::Global;
 use whole_tableau::Setting;
@@ -55,7 +55,7 @@ pub fn start_in_wholes<'a, F: Exact>(
 
 impl<'a, F: Exact> Started<'a, F> {
     /// Both walks of a column, within what the solve leaves of the limit.
-    fn sides(&self, alloc: Global, asked: Asked<F>, limit: u32) -> Option<BothSides<F>>
+    fn sides(&self, alloc: Global, asked: Asked<F>, limit: u32) -> Option<BothSides>
         requires started { IsStarted F.value self.now.reached.tableau.problem (rational (F.value asked.tau)) limit self.now }
         requires asked { IsAskable F.value self.now.reached.tableau.problem asked }
         ensures { IfSome result (AreSidesOf F.value self.now asked limit) }
@@ -74,7 +74,7 @@ impl<'a, F: Exact> Started<'a, F> {
     }
 
     /// The interval of a column, from the solve at its quantile.
-    pub fn interval(&self, alloc: Global, asked: Asked<F>, limit: u32) -> Option<Interval<F>>
+    pub fn interval(&self, alloc: Global, asked: Asked<F>, limit: u32) -> Option<Interval>
         requires started { IsStarted F.value self.now.reached.tableau.problem (rational (F.value asked.tau)) limit self.now }
         requires asked { IsAskable F.value self.now.reached.tableau.problem asked }
         ensures { IfSome result (IsRankInterval F.value self.now.reached.tableau.problem asked.column asked.tau asked.crit limit) }
@@ -85,30 +85,9 @@ impl<'a, F: Exact> Started<'a, F> {
             rise,
             fall,
         } = sides;
-        let Arrival {
-            steps: up,
-            end: high,
-        } = rise;
-        let Arrival {
-            steps: down,
-            end: low,
-        } = fall;
-        let trail = match with_walks(alloc, &self.reached.trail, up, down) {
-            Ok(trail) => trail,
-            Err(_) => {
-                drop(low);
-                drop(high);
-                return None;
-            }
-        };
-        Some(Interval {
-            column: asked.column,
-            tau: asked.tau,
-            crit: asked.crit,
-            low,
-            high,
-            projection: factors,
-            trail,
-        })
+        match joined(alloc, &self.reached.trail, asked, factors, rise, fall) {
+            Ok(interval) => Some(interval),
+            Err(_) => None,
+        }
     }
 }

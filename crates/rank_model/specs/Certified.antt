@@ -7,7 +7,7 @@ use Rattle.loss_model.specs.declared.problem.Problem.{Problem}
 use Rattle.loss_model.specs.declared.vertex.Side.{Side}
 use Rattle.loss_model.specs.declared.vertex.Vertex.{Vertex}
 use Rattle.loss_model.specs.Sample.{Sample, up_cost, down_cost, residual}
-use Rattle.loss_model.specs.Problem.{value_at, sample}
+use Rattle.loss_model.specs.Problem.{number_at, sample}
 use Rattle.loss_model.specs.Dual.{IsDataRow}
 use Rattle.loss_model.specs.Vertex.{dual_value, IsOn, IsVertexOf}
 use Rattle.loss_model.specs.declared.interval.Bound.{Bound}
@@ -22,9 +22,9 @@ use Rattle.rank_model.specs.Bounds.{IsAtLeast, IsAtMost, IsAbove, IsBelow, IsIns
 use Rattle.rank_model.specs.Shown.{IsStatedRay}
 
 -- a bound of the program as one in ℚ
-abbrev pub bound_of : {F : Type 0} → (F → Fraction) → Bound F → Bound ℚ
-bound_of value (Finite x) = Finite (rational (value x))
-bound_of value Infinite = Infinite
+abbrev pub bound_of : Bound Fraction → Bound ℚ
+bound_of (Finite x) = Finite (rational x)
+bound_of Infinite = Infinite
 
 -- of two finite ends the low one is not above the high one
 abbrev pub AreInOrder : Bound ℚ → Bound ℚ → Type 0
@@ -33,68 +33,68 @@ AreInOrder _ _ = Unit {0}
 
 module _ {F : Type 0} (value : F → Fraction) (p : Problem F) (j : ℕ) (tau crit q : ℚ) where
   -- the dual values of the rows, where the basic rows of the vertex have these
-  abbrev pub row_values : Vertex F → List F → ℕ → ℚ
+  abbrev pub row_values : Vertex → List Fraction → ℕ → ℚ
   row_values v basic = dual_value value p v basic tau
 
   -- and the statistic of these
-  abbrev pub statistic_of : Vertex F → List F → ℚ
+  abbrev pub statistic_of : Vertex → List Fraction → ℚ
   statistic_of v basic = rank_statistic (sample value p) j (row_values v basic)
 
   -- every row has a side, on which its residual lies, and the dual values are feasible without the
   -- column, and within the bound
-  pub record MeetsInside (v : Vertex F) (inside : List F) : Type 0 where
+  pub record MeetsInside (v : Vertex) (inside : List Fraction) : Type 0 where
     pub sides : length v.sides ≡ length p.rows
-    pub on : (i : ℕ) (side : Side) → slice_get v.sides i ≡ Some side → IsOn side (residual (sample value p) (value_at value v.coef) i)
+    pub on : (i : ℕ) (side : Side) → slice_get v.sides i ≡ Some side → IsOn side (residual (sample value p) (number_at v.coef) i)
     pub feasible : IsFeasibleWithout (sample value p) j tau (row_values v inside)
     pub within : (statistic_of v inside *ℚ statistic_of v inside) ≤ℚ rank_bound tau crit q
 
   -- other dual values of the same vertex are feasible without the column, and beyond the bound
-  pub record MeetsOutside (v : Vertex F) (outside : List F) : Type 0 where
+  pub record MeetsOutside (v : Vertex) (outside : List Fraction) : Type 0 where
     pub feasible : IsFeasibleWithout (sample value p) j tau (row_values v outside)
     pub beyond : rank_bound tau crit q <ℚ (statistic_of v outside *ℚ statistic_of v outside)
 
   -- the high end is the coefficient, and a negative statistic lies beyond; or a ray goes up
-  abbrev pub MeetsHighBound : Vertex F → List F → Bound F → Beyond F → Type 0
+  abbrev pub MeetsHighBound : Vertex → List Fraction → Bound Fraction → Beyond → Type 0
   MeetsHighBound v inside (Finite x) (Outside f) =
-      (rational (value x) ≡ value_at value v.coef j) × MeetsOutside v f × (statistic_of v f <ℚ whole (pos 0))
+      (rational x ≡ number_at v.coef j) × MeetsOutside v f × (statistic_of v f <ℚ whole (pos 0))
   MeetsHighBound v inside Infinite (Ray r) =
-      (value_at value r j ≡ whole (pos 1)) × IsStatedRay (sample value p) tau (value_at value r) (row_values v inside)
+      (number_at r j ≡ whole (pos 1)) × IsStatedRay (sample value p) tau (number_at r) (row_values v inside)
   MeetsHighBound v inside _ _ = ⊥
 
   -- the low end is the coefficient, and a positive statistic lies beyond; or a ray goes down
-  abbrev pub MeetsLowBound : Vertex F → List F → Bound F → Beyond F → Type 0
+  abbrev pub MeetsLowBound : Vertex → List Fraction → Bound Fraction → Beyond → Type 0
   MeetsLowBound v inside (Finite x) (Outside f) =
-      (rational (value x) ≡ value_at value v.coef j) × MeetsOutside v f × (whole (pos 0) <ℚ statistic_of v f)
+      (rational x ≡ number_at v.coef j) × MeetsOutside v f × (whole (pos 0) <ℚ statistic_of v f)
   MeetsLowBound v inside Infinite (Ray r) =
-      (value_at value r j ≡ whole (negsuc 0)) × IsStatedRay (sample value p) tau (value_at value r) (row_values v inside)
+      (number_at r j ≡ whole (negsuc 0)) × IsStatedRay (sample value p) tau (number_at r) (row_values v inside)
   MeetsLowBound v inside _ _ = ⊥
 
   -- all conditions on the high end
-  pub record MeetsHigh (end : End F) : Type 0 where
+  pub record MeetsHigh (end : End) : Type 0 where
     pub inside : MeetsInside end.vertex end.inside
     pub bound : MeetsHighBound end.vertex end.inside end.bound end.beyond
 
   -- and on the low end
-  pub record MeetsLow (end : End F) : Type 0 where
+  pub record MeetsLow (end : End) : Type 0 where
     pub inside : MeetsInside end.vertex end.inside
     pub bound : MeetsLowBound end.vertex end.inside end.bound end.beyond
 
 -- the squared length that the projection of an interval leaves
-abbrev pub length_of : {F : Type 0} → (F → Fraction) → Problem F → IntervalProof F → ℚ
-length_of value p proof = squared_length (sample value p) proof.column (value_at value proof.projection)
+abbrev pub length_of : {F : Type 0} → (F → Fraction) → Problem F → IntervalProof → ℚ
+length_of value p proof = squared_length (sample value p) proof.column (number_at proof.projection)
 
 -- all conditions on an interval
-pub record MeetsConditions {F : Type 0} (value : F → Fraction) (p : Problem F) (proof : IntervalProof F) : Type 0 where
+pub record MeetsConditions {F : Type 0} (value : F → Fraction) (p : Problem F) (proof : IntervalProof) : Type 0 where
   pub column : proof.column < p.columns
   pub data_rows : (i : ℕ) → i < length p.rows → IsDataRow (sample value p) i
-  pub tau_above : whole (pos 0) <ℚ rational (value proof.tau)
-  pub tau_below : rational (value proof.tau) <ℚ whole (pos 1)
-  pub crit : whole (pos 0) ≤ℚ rational (value proof.crit)
-  pub projection : IsProjection (sample value p) proof.column (value_at value proof.projection)
+  pub tau_above : whole (pos 0) <ℚ rational proof.tau
+  pub tau_below : rational proof.tau <ℚ whole (pos 1)
+  pub crit : whole (pos 0) ≤ℚ rational proof.crit
+  pub projection : IsProjection (sample value p) proof.column (number_at proof.projection)
   pub positive : whole (pos 0) <ℚ length_of value p proof
-  pub low : MeetsLow value p proof.column (rational (value proof.tau)) (rational (value proof.crit)) (length_of value p proof) proof.low
-  pub high : MeetsHigh value p proof.column (rational (value proof.tau)) (rational (value proof.crit)) (length_of value p proof) proof.high
-  pub order : AreInOrder (bound_of value proof.low.bound) (bound_of value proof.high.bound)
+  pub low : MeetsLow value p proof.column (rational proof.tau) (rational proof.crit) (length_of value p proof) proof.low
+  pub high : MeetsHigh value p proof.column (rational proof.tau) (rational proof.crit) (length_of value p proof) proof.high
+  pub order : AreInOrder (bound_of proof.low.bound) (bound_of proof.high.bound)
 
 module _ (p : Sample) (j : ℕ) (tau crit : ℚ) where
   -- a finite high end holds; where there is none, all values from `from` on do
@@ -116,22 +116,22 @@ module _ (p : Sample) (j : ℕ) (tau crit : ℚ) where
     pub all_between : (xi : ℚ) (e : ℕ → ℚ) → IsAbove low xi → IsBelow high xi → IsOptimalAt p j tau xi e → IsInside p j tau crit q xi e
 
 -- an interval that meets its conditions shows this of its ends
-abbrev pub ConditionsShowInterval : {F : Type 0} → (F → Fraction) → Problem F → IntervalProof F → Type 0
+abbrev pub ConditionsShowInterval : {F : Type 0} → (F → Fraction) → Problem F → IntervalProof → Type 0
 ConditionsShowInterval value p proof =
     MeetsConditions value p proof
-    → ShowsInterval (sample value p) proof.column (rational (value proof.tau)) (rational (value proof.crit)) (length_of value p proof)
-    (bound_of value proof.low.bound) (bound_of value proof.high.bound)
-    (value_at value proof.low.vertex.coef proof.column) (value_at value proof.high.vertex.coef proof.column)
+    → ShowsInterval (sample value p) proof.column (rational proof.tau) (rational proof.crit) (length_of value p proof)
+    (bound_of proof.low.bound) (bound_of proof.high.bound)
+    (number_at proof.low.vertex.coef proof.column) (number_at proof.high.vertex.coef proof.column)
 
 -- dual values by the sides of a vertex are within the costs where no cost is negative and the values of
 -- the basic rows are, as they are tested
 abbrev pub BoundsByBasics : {F : Type 0} → (F → Fraction) → Problem F → Type 0
 BoundsByBasics {F} value p =
-    (theta : ℚ) (v : Vertex F) (basic : List F) → IsVertexOf p v
+    (theta : ℚ) (v : Vertex) (basic : List Fraction) → IsVertexOf p v
     → ((i : ℕ) → i < length p.rows → (whole (pos 0) ≤ℚ up_cost (sample value p) theta i) × (whole (pos 0) ≤ℚ down_cost (sample value p) theta i))
     → ((k : ℕ) → k < length v.basis.rows
-    → (neg_ℚ (down_cost (sample value p) theta (slice_index v.basis.rows k)) ≤ℚ value_at value basic k)
-    × (value_at value basic k ≤ℚ up_cost (sample value p) theta (slice_index v.basis.rows k)))
+    → (neg_ℚ (down_cost (sample value p) theta (slice_index v.basis.rows k)) ≤ℚ number_at basic k)
+    × (number_at basic k ≤ℚ up_cost (sample value p) theta (slice_index v.basis.rows k)))
     → (i : ℕ) → i < length p.rows
     → (neg_ℚ (down_cost (sample value p) theta i) ≤ℚ dual_value value p v basic theta i)
     × (dual_value value p v basic theta i ≤ℚ up_cost (sample value p) theta i)

@@ -68,7 +68,7 @@ pub fn shown_interval()
 
 /// An interval that meets its conditions shows which values hold; and its dual values are within their
 /// bounds where those of the basic rows are.
-pub fn certified_interval<F: Exact>(problem: &Problem<F>, proof: &IntervalProof<F>)
+pub fn certified_interval<F: Exact>(problem: &Problem<F>, proof: &IntervalProof)
     ensures shows { ConditionsShowInterval F.value problem.now proof.now }
     ensures bounds { BoundsByBasics F.value problem.now }
 {}

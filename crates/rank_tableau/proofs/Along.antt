@@ -24,6 +24,7 @@ use Rattle.rank_walk_model.specs.Loops.{IsWalking}
 use Rattle.rank_walk_model.specs.RankWalks.{Way, rise, fall, tested}
 use Rattle.rank_walk_model.specs.Crossings.{parameter_of}
 use Rattle.rank_walk_model.proofs.Loops as loop
+use Rattle.tableau_model.specs.declared.answer.WalkingStep.{WalkingStep}
 use Rattle.whole_inverse.specs.Shares.{share}
 use Rattle.whole_tableau.specs.declared.setting.Setting.{Setting}
 use Rattle.whole_tableau.specs.Kept.{IsKept, place}
@@ -35,7 +36,7 @@ use Rattle.rank_tableau.specs.declared.reach.Square.{Square}
 use Rattle.rank_tableau.specs.declared.walking.Walk.{Walk}
 use Rattle.rank_tableau.specs.Founds.{bound_by, parameter_at, family_of}
 use Rattle.rank_tableau.specs.Ends.{IsEndOf}
-use Rattle.rank_tableau.specs.Walks.{here_of, IsStepAt, IsAdvanced, IsAlong, IsEnded}
+use Rattle.rank_tableau.specs.Walks.{here_of, exchange_of, IsStepAt, IsAdvanced, IsAlong, IsEnded}
 
 -- the parameter is 0 where the column weighs nothing
 pub nothing_at : (way : Way) (x : ℚ) → x ≡ whole (pos 0) → parameter_of way x ≡ whole (pos 0)
@@ -43,9 +44,9 @@ nothing_at rise x e = ap neg_ℚ e ∙ ring_ℚ [] (negated (number (pos 0))) (n
 nothing_at fall x e = e
 
 -- the parameter of a step
-pub when_is : {F : Type 0} (value : F → Fraction) (way : Way) (x : F) → when_on way value x ≡ parameter_of way (rational (value x))
-when_is value rise x = refl
-when_is value fall x = refl
+pub when_is : (way : Way) (x : Fraction) → when_on way x ≡ parameter_of way (rational x)
+when_is rise x = refl
+when_is fall x = refl
 
 module _ {F : Type 0} (value : F → Fraction) (c : Course F) where
   pub along_begins : (r : Square) (w : Walk F) → IsKept value (here_of w) → w.steps ≡ [] → rational (value w.weight) ≡ whole (pos 0)
@@ -75,30 +76,33 @@ module _ {F : Type 0} (value : F → Fraction) (p : Problem F) (c : Course F) (b
   along_column w h lj = subst (λ (q : Problem F). c.column < q.columns) (sym h.problem) lj
 
   -- a step at the basis is one over the problem
-  step_here : (w : Walk F) → IsAlong value p c bound solved r w → (x : Exchange F) → IsStepAt value (here_of w) c r w.weight x
+  step_here : (w : Walk F) → IsAlong value p c bound solved r w → (x : WalkingStep F) → IsStepAt value (here_of w) c r w.weight x
       → IsWalkingStep (tested (way_of c.way) (sample value p) (rational (value c.tau)) c.column) (slice_index (here_of w).rows) (place value (here_of w)).inverse (is_within bound)
-      (parameter_at value c w.weight) (when_on (way_of c.way) value x.theta) x.position x.row
+      (parameter_at value c w.weight) (when_on (way_of c.way) (value x.theta)) x.position x.row
   step_here w h x step =
       subst (λ t. IsWalkingStep (tested (way_of c.way) (sample value p) (rational (value c.tau)) c.column) (slice_index (here_of w).rows) (place value (here_of w)).inverse (is_within bound)
-      (parameter_at value c w.weight) t x.position x.row) (sym (when_is value (way_of c.way) x.theta))
+      (parameter_at value c w.weight) t x.position x.row) (sym (when_is (way_of c.way) (value x.theta)))
       (subst (λ q. IsWalkingStep (family_of value (sample value q) c) (slice_index (here_of w).rows) (place value (here_of w)).inverse (is_within bound)
       (parameter_at value c w.weight) (parameter_at value c x.theta) x.position x.row) h.problem
       (subst (λ b. IsWalkingStep (family_of value (sample value (here_of w).problem) c) (slice_index (here_of w).rows) (place value (here_of w)).inverse (is_within b)
       (parameter_at value c w.weight) (parameter_at value c x.theta) x.position x.row) h.bound_is step))
 
   module _ (before after : Walk F) (costs : HasCosts (sample value p) (rational (value c.tau))) (h : IsAlong value p c bound solved r before) (a : IsAdvanced value c r before after) where
-    abbrev W : List (Exchange F) → ℚ → List ℕ → (ℕ → ℕ → ℚ) → Type 0
+    abbrev W : List Exchange → ℚ → List ℕ → (ℕ → ℕ → ℚ) → Type 0
     W steps t rows inv = IsWalking value p (way_of c.way) c.column (rational (value c.tau)) bound solved steps t rows inv
 
-    abbrev x : Exchange F
+    abbrev x : WalkingStep F
     x = a.step
+
+    abbrev taken : Exchange
+    taken = exchange_of value x
 
     abbrev made : ℕ → ℕ → ℚ
     made = exchanged p.columns (place value (here_of before)).inverse x.position ((sample value p).x x.row)
 
-    stepped : W (before.steps ++ x ∷ []) (when_on (way_of c.way) value x.theta) (slice_set (here_of before).rows x.position x.row) made
+    stepped : W (before.steps ++ taken ∷ []) (when_on (way_of c.way) (value x.theta)) (slice_set (here_of before).rows x.position x.row) made
     stepped =
-        loop.goes_on value p (way_of c.way) c.column (rational (value c.tau)) bound solved before.steps (parameter_at value c before.weight) (here_of before).rows (place value (here_of before)).inverse x
+        loop.goes_on value p (way_of c.way) c.column (rational (value c.tau)) bound solved before.steps (parameter_at value c before.weight) (here_of before).rows (place value (here_of before)).inverse taken
         costs h.walking (step_here before h x a.is_step)
 
     same_problem : (here_of after).problem ≡ p
@@ -129,13 +133,13 @@ module _ {F : Type 0} (value : F → Fraction) (p : Problem F) (c : Course F) (b
               ((factor_value s.wholes.cost *ℚ factor_at s.wholes.factors c.column) *ℚ (factor_value s.wholes.cost *ℚ factor_at s.wholes.factors c.column))) a.setting ∙ h.bound_is;
           walking =
               subst (λ steps. W steps (parameter_at value c after.weight) (here_of after).rows (place value (here_of after)).inverse) (sym a.steps)
-              (subst (λ t. W (before.steps ++ x ∷ []) t (here_of after).rows (place value (here_of after)).inverse) (when_is value (way_of c.way) x.theta ∙ ap (parameter_at value c) (sym a.weight))
-              (subst (λ rows. W (before.steps ++ x ∷ []) (when_on (way_of c.way) value x.theta) rows (place value (here_of after)).inverse) (sym a.rows)
-              (subst (λ inv. W (before.steps ++ x ∷ []) (when_on (way_of c.way) value x.theta) (slice_set (here_of before).rows x.position x.row) inv) same_entries stepped)));
+              (subst (λ t. W (before.steps ++ taken ∷ []) t (here_of after).rows (place value (here_of after)).inverse) (when_is (way_of c.way) (value x.theta) ∙ ap (parameter_at value c) (sym a.weight))
+              (subst (λ rows. W (before.steps ++ taken ∷ []) (when_on (way_of c.way) (value x.theta)) rows (place value (here_of after)).inverse) (sym a.rows)
+              (subst (λ inv. W (before.steps ++ taken ∷ []) (when_on (way_of c.way) (value x.theta)) (slice_set (here_of before).rows x.position x.row) inv) same_entries stepped)));
         }
 
   module _ (w : Walk F) (h : IsAlong value p c bound solved r w) (limit : ℕ) where
-    pub along_ended : (end : End F) → IsEndOf value (place value (here_of w)) c (bound_by (here_of w) c.column r) w.weight end → length w.steps ≤ limit → IsEnded value p c bound solved limit (record { steps = w.steps; end = end })
+    pub along_ended : (end : End) → IsEndOf value (place value (here_of w)) c (bound_by (here_of w) c.column r) w.weight end → length w.steps ≤ limit → IsEnded value p c bound solved limit (record { steps = w.steps; end = end })
     along_ended end e short =
         record {
           walked = h.walking.walked;

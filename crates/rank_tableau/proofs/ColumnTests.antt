@@ -1,9 +1,8 @@
 -- The test of a column, by the factors over its whole rows.
-use Rattle.std.specs.Prelude.{◌≡◌, ◌≢◌, ℕ, ◌<◌, ◌≤◌, List, length, Option, Some, None, IfSome, pos}
-use Rattle.std.proofs.Common.{refl}
+use Rattle.std.specs.Prelude.{◌≡◌, ◌≢◌, ℕ, ◌<◌, ◌≤◌, List, length, pos}
 use Rattle.rational_laws.specs.Fraction.{Fraction}
 use Rattle.rational_laws.specs.Rational.{ℚ, whole}
-use Rattle.loss_model.specs.Problem.{sample, value_at}
+use Rattle.loss_model.specs.Problem.{number_at, sample}
 use Rattle.loss_model.specs.Sample.{Sample}
 use Rattle.loss_model.specs.Strict.{◌<ℚ◌}
 use Rattle.rank_model.specs.Restricted.{IsProjection, squared_length, rank_bound}
@@ -12,7 +11,7 @@ use Rattle.whole_rows.specs.Scaled.{IsScaled}
 use Rattle.whole_rows.specs.Wholes.{factor_at, factor_value}
 use Rattle.whole_tableau.specs.Kept.{Kept, wholes_of}
 use Rattle.gram_check.specs.Laws.{unscaled_factors}
-use Rattle.rank_tableau.specs.Tests.{AreListed, IsColumnTest}
+use Rattle.rank_tableau.specs.Tests.{IsColumnTest}
 use Rattle.rank_tableau.specs.declared.reach.Square.{Square}
 use Rattle.rank_tableau.proofs.Projections.{projects_there, bound_there, positive_there}
 
@@ -35,20 +34,13 @@ module _ {F : Type 0} (value : F → Fraction) (k : Kept F) (j : ℕ) (c : ℕ �
   module _ (lj : j < k.problem.columns) (h : IsScaled p q s ly lc) (some : (m : ℕ) → m < k.problem.columns → s m ≢ whole (pos 0)) (cost : lc ≢ whole (pos 0))
       (projection : IsProjection q j c) (positive : whole (pos 0) <ℚ squared_length q j c) (under : 1 ≤ reach.under)
       (bound : share (pos reach.over) (pos reach.under) ≡ rank_bound tau crit (squared_length q j c)) where
-    test_by : (e : ℕ → ℚ) (listed : Option (List F)) → IfSome listed (λ list. value_at value list ≡ e) → IfSome listed (λ list. length list ≡ k.problem.columns)
-        → ((m : ℕ) → m < k.problem.columns → e m ≡ unscaled_factors s j c m) → IsColumnTest value k j tau crit (record { factors = listed; reach = reach })
-    test_by e listed same size each =
+    pub test_is : (e : List Fraction) → length e ≡ k.problem.columns → ((m : ℕ) → m < k.problem.columns → number_at e m ≡ unscaled_factors s j c m)
+        → IsColumnTest value k j tau crit (record { factors = e; reach = reach })
+    test_is e size each =
         record {
-          factors = e;
-          listed = same;
           size = size;
-          projection = projects_there p q s ly lc j c e lj h some cost projection each;
-          positive = positive_there p q s ly lc j c e lj h some cost projection each positive;
+          projection = projects_there p q s ly lc j c (number_at e) lj h some cost projection each;
+          positive = positive_there p q s ly lc j c (number_at e) lj h some cost projection each positive;
           under = under;
-          bound = bound_there p q s ly lc j c e lj h some cost projection each tau crit _ bound;
+          bound = bound_there p q s ly lc j c (number_at e) lj h some cost projection each tau crit _ bound;
         }
-
-    -- by the list of the factors, where there is one, and else by the factors themselves
-    pub test_is : (listed : Option (List F)) → AreListed value k.problem.columns (unscaled_factors s j c) listed → IsColumnTest value k j tau crit (record { factors = listed; reach = reach })
-    test_is None none = test_by (unscaled_factors s j c) None tt tt (λ m l. refl)
-    test_is (Some list) h = test_by (value_at value list) (Some list) refl h.0 h.1

@@ -1,10 +1,10 @@
 -- Inner. What a walk in whole numbers hands out at its end.
-use Rattle.std.specs.Prelude.{◌≡◌, ℕ, ℤ, ◌<◌, ◌*ℤ◌, List, length}
+use Rattle.std.specs.Prelude.{◌≡◌, ℕ, ℤ, ◌*ℤ◌}
 use Rattle.rational_laws.specs.Fraction.{Fraction, rational}
 use Rattle.rational_laws.specs.Rational.{ℚ, ◌+ℚ◌, ◌*ℚ◌}
 use Rattle.loss_model.specs.declared.interval.End.{End}
-use Rattle.loss_model.specs.Problem.{value_at}
 use Rattle.basis_model.specs.Basis.{dual_value}
+use Rattle.walk_model.specs.Families.{dual_in}
 use Rattle.rank_walk_model.specs.Ends.{IsEndAt}
 use Rattle.tableau_model.specs.Places.{Place, at_of, sample_of}
 use Rattle.whole_rows.specs.declared.factor.Factor.{Factor}
@@ -17,7 +17,7 @@ use Rattle.rank_tableau.specs.declared.course.Course.{Course}
 use Rattle.rank_tableau.specs.declared.finding.Finding.TheVariants.{Step as Stepped}
 use Rattle.rank_tableau.specs.declared.outcome.Next.{Next}
 use Rattle.rank_tableau.specs.declared.outcome.Next.TheVariants.{Step, End as Ended}
-use Rattle.rank_tableau.specs.Founds.{parameter_at, IsFound}
+use Rattle.rank_tableau.specs.Founds.{family_of, parameter_at, IsFound}
 
 -- numbers over the determinant and the quantile's second part, affine in what the column weighs for the whole rows, are read
 -- there and divided by the factor of the costs
@@ -32,21 +32,13 @@ module _ {F : Type 0} (value : F → Fraction) (h : Place F) (c : Course F) wher
   weighed_value weight j =
       dual_value (sample_of value h) (at_of h) h.inverse (rational (value c.tau)) j +ℚ (h.inverse c.column j *ℚ rational (value weight))
 
-  -- the list has these by position
-  pub record AreWeighed (weight : F) (list : List F) : Type 0 where
-    pub size : length list ≡ h.task.problem.columns
-    pub each : (j : ℕ) → j < h.task.problem.columns → value_at value list j ≡ weighed_value weight j
+  -- that of row i
+  abbrev pub weighed_row : F → ℕ → ℚ
+  weighed_row weight i = dual_in (family_of value (sample_of value h) c) (at_of h) h.inverse (parameter_at value c weight) i
 
   -- the end of the walk there
-  abbrev pub IsEndOf : ℚ → F → End F → Type 0
+  abbrev pub IsEndOf : ℚ → F → End → Type 0
   IsEndOf bound from end = IsEndAt value h.task.problem (way_of c.way) c.column (rational (value c.tau)) bound h.rows h.inverse (parameter_at value c from) end
-
-  -- x is the dual value of row i of the basis there
-  pub record IsValueOfRow (weight : F) (i : ℕ) (x : ℚ) : Type 0 where
-    pub position : ℕ
-    pub within : position < h.task.problem.columns
-    pub holds : at_of h position ≡ i
-    pub same : x ≡ weighed_value weight position
 
   -- the walking step, or the end
   abbrev pub IsNext : ℚ → F → Next F → Type 0

@@ -11,6 +11,7 @@ use Rattle.walk_model.specs.WalkTrails.{AreWalkingSteps, is_within}
 use Rattle.rank_walk_model.specs.Intervals.{when_on, IsWalked}
 use Rattle.rank_walk_model.specs.Loops.{IsWalking}
 use Rattle.rank_walk_model.specs.RankWalks.{tested}
+use Rattle.tableau_model.specs.declared.answer.WalkingStep.{WalkingStep}
 use Rattle.whole_tableau.specs.Kept.{Kept, IsKept, place}
 use Rattle.rank_steps.specs.Ways.{way_of}
 use Rattle.rank_tableau.specs.declared.course.Course.{Course}
@@ -25,25 +26,29 @@ abbrev pub here_of : {F : Type 0} → Walk F → Kept F
 here_of w = unwrap_or w.own w.start.now
 
 module _ {F : Type 0} (value : F → Fraction) where
+  -- a step as a trail has it
+  abbrev pub exchange_of : WalkingStep F → Exchange
+  exchange_of x = record { theta = value x.theta; position = x.position; row = x.row }
+
   -- the walking step at a basis, which the walk entered where the column weighed so much
-  abbrev pub IsStepAt : Kept F → Course F → Square → F → Exchange F → Type 0
+  abbrev pub IsStepAt : Kept F → Course F → Square → F → WalkingStep F → Type 0
   IsStepAt k c r from x =
       IsWalkingStep (family_of value (sample value k.problem) c) (slice_index k.rows) (place value k).inverse (is_within (bound_by k c.column r))
       (parameter_at value c from) (parameter_at value c x.theta) x.position x.row
 
   -- the walking step is made
   pub record IsAdvanced (c : Course F) (r : Square) (before after : Walk F) : Type 0 where
-    pub step : Exchange F
+    pub step : WalkingStep F
     pub is_step : IsStepAt (here_of before) c r before.weight step
     pub kept : IsKept value (here_of after)
     pub problem : (here_of after).problem ≡ (here_of before).problem
     pub setting : (here_of after).setting ≡ (here_of before).setting
     pub rows : (here_of after).rows ≡ slice_set (here_of before).rows step.position step.row
-    pub steps : after.steps ≡ before.steps ++ step ∷ []
+    pub steps : after.steps ≡ before.steps ++ exchange_of step ∷ []
     pub weight : after.weight ≡ step.theta
 
   -- it is made, or the walk is at its end
-  abbrev pub IsAdvancedOrEnded : Course F → Square → Walk F → Walk F → Option (End F) → Type 0
+  abbrev pub IsAdvancedOrEnded : Course F → Square → Walk F → Walk F → Option End → Type 0
   IsAdvancedOrEnded c r before after None = IsAdvanced c r before after
   IsAdvancedOrEnded c r before after (Some end) =
       (after ≡ before) × IsEndOf value (place value (here_of before)) c (bound_by (here_of before) c.column r) before.weight end
@@ -58,8 +63,8 @@ module _ {F : Type 0} (value : F → Fraction) where
           (here_of w).rows (place value (here_of w)).inverse
 
     -- the steps lead, within the limit, to the end that is handed out
-    pub record IsEnded (limit : ℕ) (w : Arrival F) : Type 0 where
-      pub walked : AreWalkingSteps (when_on (way_of c.way) value) (tested (way_of c.way) (sample value p) (rational (value c.tau)) c.column) (is_within bound)
+    pub record IsEnded (limit : ℕ) (w : Arrival) : Type 0 where
+      pub walked : AreWalkingSteps (when_on (way_of c.way)) (tested (way_of c.way) (sample value p) (rational (value c.tau)) c.column) (is_within bound)
           (whole (pos 0)) solved w.steps
       pub ended : IsWalked value p (way_of c.way) c.column (rational (value c.tau)) bound solved w.steps w.end
       pub short : length w.steps ≤ limit

@@ -2,14 +2,19 @@
 ghost use Rattle.std.specs.Prelude.{◌≡◌, ◌<◌, IfOk};
 ghost use Rattle.rational_laws.specs.Fraction.{rational};
 ghost use Rattle.rational_laws.specs.Rational.{◌*ℚ◌};
+ghost use Rattle.pivot_model.specs.Results.{IsVertexAt};
+ghost use Rattle.rank_walk_model.specs.Ends.{AreValuesOf};
 ghost use Rattle.whole_rows.specs.Wholes.{factor_at, factor_value, IsPositive};
 ghost use Rattle.whole_steps.specs.Quantiles.{IsQuantile, theta_of};
 ghost use Rattle.whole_tableau.specs.Kept.{IsKept, place};
-ghost use Rattle.rank_tableau.specs.Ends.{IsWeighing, weighed_value, AreWeighed};
+ghost use Rattle.rank_tableau.specs.Ends.{IsWeighing, weighed_value, weighed_row};
 
 use crate::course::Course;
 use crate::numbers::{dual_number, scale_number, speed_number};
 use frac_core::{Exact, List};
+use loss_model::Vertex;
+use ratio::Ratio;
+use tableau_model::position_of;
 use whole_inverse::Obstacle;
 use whole_rows::{Factor, value_over};
 use whole_steps::Quantile;
@@ -50,19 +55,19 @@ fn weighing<F: Exact>(
 }
 
 /// The dual value at a position, where the column weighs so much.
-fn weighed<F: Exact>(
+pub(crate) fn weighed<F: Exact>(
     tableau: &WholeTableau<'_, F>,
     course: &Course<F>,
     factor: Factor<i128>,
     weight: F,
     position: u32,
-) -> Result<F, Obstacle>
+) -> Result<Ratio, Obstacle>
     requires kept { IsKept F.value tableau.now }
     requires column { course.now.column < tableau.now.problem.columns }
     requires position { position < tableau.now.problem.columns }
     requires factor { factor_value factor ≡ factor_at tableau.now.setting.wholes.factors course.now.column }
     requires positive { IsPositive factor }
-    ensures { IfOk result (λ e. rational (F.value e) ≡ weighed_value F.value (place F.value tableau.now) course.now weight position) }
+    ensures { IfOk result (λ e. rational e ≡ weighed_value F.value (place F.value tableau.now) course.now weight position) }
 {
     let theta = Quantile::<i128>::of(course.tau)?;
     let reading = weighing(tableau, theta, factor, weight)?;
@@ -70,27 +75,33 @@ fn weighed<F: Exact>(
     let speed = speed_number(tableau, course.column, theta, position)?;
     let constant = Wide::of(dual);
     let linear = Wide::of(speed);
-    let value = reading.value(constant, linear)?;
+    let number = reading.value(constant, linear)?;
+    let value = Ratio::widen(tableau.alloc(), number)?;
     Ok(value)
 }
 
-/// The dual values by position, where the column weighs so much.
-pub(crate) fn weighed_values<F: Exact>(
+/// The dual values of the rows of the vertex, where the column weighs so much.
+pub(crate) fn basic_values<F: Exact>(
     tableau: &WholeTableau<'_, F>,
     course: &Course<F>,
     factor: Factor<i128>,
+    vertex: &Vertex,
     weight: F,
-) -> Result<List<F>, Obstacle>
+) -> Result<List<Ratio>, Obstacle>
     requires kept { IsKept F.value tableau.now }
     requires column { course.now.column < tableau.now.problem.columns }
     requires factor { factor_value factor ≡ factor_at tableau.now.setting.wholes.factors course.now.column }
     requires positive { IsPositive factor }
-    ensures { IfOk result (AreWeighed F.value (place F.value tableau.now) course.now weight) }
+    requires vertex { IsVertexAt F.value tableau.now.problem tableau.now.rows (place F.value tableau.now).inverse vertex.now }
+    ensures { IfOk result (AreValuesOf vertex.now (weighed_row F.value (place F.value tableau.now) course.now weight)) }
 {
-    let mut made = List::new(tableau.alloc());
-    for position in 0..tableau.problem().columns {
+    let rows = tableau.basis().rows.as_slice();
+    let sorted = vertex.basis.rows.as_slice();
+    let mut basic = List::new(tableau.alloc());
+    for k in 0..sorted.len() {
+        let position = position_of(rows, sorted[k]) as u32;
         let value = weighed(tableau, course, factor, weight, position)?;
-        made.add(value)?;
+        basic.add(value)?;
     }
-    Ok(made)
+    Ok(basic)
 }

@@ -12,9 +12,8 @@ use crate::course::Course;
 use crate::reach::{Square, is_beyond};
 use crate::weight::{factor_of, weight_of};
 use frac_core::Exact;
-use loss_model::Exchange;
 use rank_steps::{WholeCourse, entering_row, first_crossing};
-use tableau_model::Breakpoint;
+use tableau_model::{Breakpoint, WalkingStep};
 use whole_inverse::Obstacle;
 use whole_rows::Factor;
 use whole_steps::{Quantile, Quotient, Station};
@@ -24,7 +23,7 @@ use whole_tableau::WholeTableau;
 /// there.
 #[derive(Clone, Copy)]
 pub enum Finding<F> {
-    Step(Exchange<F>),
+    Step(WalkingStep<F>),
     Past(Breakpoint<F>),
     Stuck(Breakpoint<F>),
 }
@@ -62,7 +61,7 @@ fn at_crossing<F: Exact>(
         return Ok(Finding::Past(here));
     }
     match entering_row::<F>(station, tableau.alloc(), next.position, next.direction) {
-        Ok(Some(row)) => Ok(Finding::Step(Exchange {
+        Ok(Some(row)) => Ok(Finding::Step(WalkingStep {
             theta: course.way.turned(theta),
             position: next.position,
             row,

@@ -1,23 +1,24 @@
 //! What a walk comes to at a basis: the walking step, or the end that is handed out.
-ghost use Rattle.std.specs.Prelude.{◌≡◌, ℕ, ◌<◌, ◌≤◌, length, slice_index, Contains, IfOk};
+ghost use Rattle.std.specs.Prelude.{◌≡◌, ◌<◌, ◌≤◌, slice_index, IfOk};
 ghost use Rattle.rational_laws.specs.Fraction.{rational};
-ghost use Rattle.loss_model.specs.Problem.{sample, value_at};
+ghost use Rattle.loss_model.specs.Problem.{number_at, sample};
 ghost use Rattle.walk_model.specs.Families.{IsOptimalIn};
 ghost use Rattle.whole_rows.specs.Wholes.{factor_at, factor_value, IsPositive};
 ghost use Rattle.whole_tableau.specs.Kept.{IsKept, place};
 ghost use Rattle.rank_tableau.specs.declared.finding.Finding.TheVariants.{Past, Stuck};
 ghost use Rattle.rank_tableau.specs.Founds.{family_of, parameter_at, bound_by, IsFound};
-ghost use Rattle.rank_tableau.specs.Ends.{IsValueOfRow, IsEndOf, IsNext};
+ghost use Rattle.rank_tableau.specs.Ends.{IsEndOf, IsNext};
 
 use crate::course::Course;
-use crate::ends::weighed_values;
+use crate::ends::basic_values;
 use crate::finding::{Finding, found};
 use crate::rays::ray_at;
 use crate::reach::Square;
 use crate::weight::factor_of;
-use frac_core::{Exact, List};
-use loss_model::{Beyond, Bound, End, Exchange};
-use tableau_model::{Breakpoint, by_row};
+use frac_core::Exact;
+use loss_model::{Beyond, Bound, End, Vertex};
+use ratio::Ratio;
+use tableau_model::{Breakpoint, WalkingStep};
 use whole_inverse::Obstacle;
 use whole_rows::Factor;
 use whole_tableau::WholeTableau;
@@ -25,40 +26,24 @@ use whole_tableau::WholeTableau;
 /// What is left at a basis: the walking step, or the end of the walk.
 #[derive(Drop)]
 pub enum Next<F> {
-    Step(Exchange<F>),
-    End(End<F>),
+    Step(WalkingStep<F>),
+    End(End),
 }
 
-/// The dual values of the basic rows where the column weighs so much, in the order of the sorted rows.
-fn basic_values<F: Exact>(
+/// The coefficient of a column, where there is one.
+fn coefficient<F: Exact>(
     tableau: &WholeTableau<'_, F>,
-    course: &Course<F>,
-    factor: Factor<i128>,
-    sorted: &[u32],
-    weight: F,
-) -> Result<List<F>, Obstacle>
-    requires kept { IsKept F.value tableau.now }
-    requires column { course.now.column < tableau.now.problem.columns }
-    requires factor { factor_value factor ≡ factor_at tableau.now.setting.wholes.factors course.now.column }
-    requires positive { IsPositive factor }
-    requires members { (k : ℕ) → k < length sorted.now → Contains tableau.now.rows (slice_index sorted.now k) }
-    ensures size { IfOk result (λ basic. length basic ≡ length sorted.now) }
-    ensures each { IfOk result (λ basic. (k : ℕ) → k < length sorted.now → IsValueOfRow F.value (place F.value tableau.now) course.now weight (slice_index sorted.now k) (value_at F.value basic k)) }
+    vertex: &Vertex,
+    column: u32,
+) -> Result<Ratio, Obstacle>
+    ensures { IfOk result (λ x. rational x ≡ number_at vertex.now.coef column) }
 {
-    let values = weighed_values(tableau, course, factor, weight)?;
-    let rows = tableau.basis().rows.as_slice();
-    let basic = by_row(tableau.alloc(), rows, sorted, values.as_slice())?;
-    Ok(basic)
-}
-
-/// The value of a column, where the list has one.
-fn value_of_column<F: Exact>(values: &[F], column: u32) -> Result<F, Obstacle>
-    ensures { IfOk result (λ x. rational (F.value x) ≡ value_at F.value values.now column) }
-{
+    let values = vertex.coef.as_slice();
     if column as usize >= values.len() {
         return Err(Obstacle::TooWide);
     }
-    Ok(values[column as usize])
+    let value = values[column as usize].copy(tableau.alloc())?;
+    Ok(value)
 }
 
 /// The end where the next breakpoint is beyond the bound.
@@ -69,7 +54,7 @@ fn finite_end<F: Exact>(
     reach: &Square,
     from: F,
     next: Breakpoint<F>,
-) -> Result<End<F>, Obstacle>
+) -> Result<End, Obstacle>
     requires kept { IsKept F.value tableau.now }
     requires column { course.now.column < tableau.now.problem.columns }
     requires factor { factor_value factor ≡ factor_at tableau.now.setting.wholes.factors course.now.column }
@@ -78,18 +63,11 @@ fn finite_end<F: Exact>(
     ensures { IfOk result (IsEndOf F.value (place F.value tableau.now) course.now (bound_by tableau.now course.now.column reach.now) from) }
 {
     let _reach = reach;
-    let fitted = tableau.fit(course.tau)?;
-    let vertex = fitted.vertex;
-    let inside = basic_values(tableau, course, factor, vertex.basis.rows.as_slice(), from)?;
+    let vertex = tableau.fit(course.tau)?.vertex;
+    let inside = basic_values(tableau, course, factor, &vertex, from)?;
     let weight = course.way.turned(next.theta);
-    let outside = basic_values(
-        tableau,
-        course,
-        factor,
-        vertex.basis.rows.as_slice(),
-        weight,
-    )?;
-    let value = value_of_column(vertex.coef.as_slice(), course.column)?;
+    let outside = basic_values(tableau, course, factor, &vertex, weight)?;
+    let value = coefficient(tableau, &vertex, course.column)?;
     Ok(End {
         bound: Bound::Finite(value),
         vertex,
@@ -106,7 +84,7 @@ fn endless<F: Exact>(
     reach: &Square,
     from: F,
     next: Breakpoint<F>,
-) -> Result<End<F>, Obstacle>
+) -> Result<End, Obstacle>
     requires kept { IsKept F.value tableau.now }
     requires column { course.now.column < tableau.now.problem.columns }
     requires factor { factor_value factor ≡ factor_at tableau.now.setting.wholes.factors course.now.column }
@@ -116,16 +94,9 @@ fn endless<F: Exact>(
 {
     let _reach = reach;
     let _from = from;
-    let fitted = tableau.fit(course.tau)?;
-    let vertex = fitted.vertex;
+    let vertex = tableau.fit(course.tau)?.vertex;
     let weight = course.way.turned(next.theta);
-    let inside = basic_values(
-        tableau,
-        course,
-        factor,
-        vertex.basis.rows.as_slice(),
-        weight,
-    )?;
+    let inside = basic_values(tableau, course, factor, &vertex, weight)?;
     let ray = ray_at(tableau, course, next.position)?;
     Ok(End {
         bound: Bound::Infinite,

@@ -1,33 +1,31 @@
 //! The test of a column: the factors that project it on the others, and the bound of the square of its statistic.
-ghost use Rattle.std.specs.Prelude.{◌≡◌, ◌≢◌, ◌<◌, ◌≤◌, length, IfOk, pos};
+ghost use Rattle.std.specs.Prelude.{◌≡◌, ◌<◌, ◌≤◌, length, IfOk, pos};
 ghost use Rattle.rational_laws.specs.Fraction.{rational};
 ghost use Rattle.rational_laws.specs.Rational.{whole};
 ghost use Rattle.loss_model.specs.Sample.{Sample};
 ghost use Rattle.loss_model.specs.Strict.{◌<ℚ◌};
 ghost use Rattle.rank_model.specs.Restricted.{IsProjection, squared_length, rank_bound};
 ghost use Rattle.whole_inverse.specs.Shares.{share, share_at};
-ghost use Rattle.whole_rows.specs.Wholes.{factor_at};
 ghost use Rattle.whole_tableau.specs.Kept.{IsKept, wholes_of};
 ghost use Rattle.gram_check.specs.Equations.{HasGram};
 ghost use Rattle.gram_check.specs.Sizes.{IsSquare};
-ghost use Rattle.gram_check.specs.Laws.{unscaled_factors};
-ghost use Rattle.rank_tableau.specs.Tests.{AreListed, IsColumnTest};
+ghost use Rattle.rank_tableau.specs.Tests.{IsColumnTest};
 
 use crate::bound::square_bound;
 use crate::reach::Square;
 use frac_core::{Exact, List};
 use gram_check::{Factors, factor_values, factors_of, length_of};
-use ratio::Integer;
+use ratio::{Integer, Ratio};
 use std::alloc::Global;
 use whole_inverse::Obstacle;
 use whole_rows::Factor;
 use whole_steps::Quantile;
 use whole_tableau::WholeTableau;
 
-/// The factors of the problem's columns, where none of them is too wide, and the bound of the square for the whole rows.
+/// The factors of the problem's columns, and the bound of the square for the whole rows.
 #[derive(Drop)]
-pub struct ColumnTest<F> {
-    pub factors: Option<List<F>>,
+pub struct ColumnTest {
+    pub factors: List<Ratio>,
     pub reach: Square,
 }
 
@@ -71,24 +69,6 @@ fn reach_of<F: Exact>(
     Ok(square)
 }
 
-/// The factors as fractions; none where one is too wide.
-fn listed<F: Exact>(
-    alloc: Global,
-    factors: &Factors,
-    scales: &[Factor<i128>],
-    column: usize,
-) -> Result<Option<List<F>>, Obstacle>
-    requires column { column < length scales.now }
-    requires some { factor_at scales.now column ≢ whole (pos 0) }
-    ensures { let f = factors.now in IfOk result (AreListed F.value (length f.numerators) (unscaled_factors (factor_at scales.now) column (share_at (pos f.denominator) f.numerators))) }
-{
-    match factor_values(alloc, factors, scales, column) {
-        Ok(values) => Ok(Some(values)),
-        Err(Obstacle::OutOfMemory) => Err(Obstacle::OutOfMemory),
-        Err(Obstacle::TooWide) => Ok(None),
-    }
-}
-
 /// The test of a column of the problem of a basis in whole numbers, by the Gram matrix of its whole rows.
 pub fn column_test<F: Exact>(
     alloc: Global,
@@ -97,7 +77,7 @@ pub fn column_test<F: Exact>(
     column: u32,
     tau: F,
     crit: F,
-) -> Result<ColumnTest<F>, Obstacle>
+) -> Result<ColumnTest, Obstacle>
     requires kept { IsKept F.value tableau.now }
     requires square { IsSquare (length gram.now) gram.now }
     requires gram { HasGram (wholes_of tableau.now) gram.now }
@@ -105,11 +85,8 @@ pub fn column_test<F: Exact>(
     ensures { IfOk result (IsColumnTest F.value tableau.now column (rational (F.value tau)) (rational (F.value crit))) }
 {
     let scales = tableau.setting().wholes.factors.as_slice();
-    if column as usize >= scales.len() {
-        return Err(Obstacle::TooWide);
-    }
     let found = factors_of(alloc, gram, column as usize)?;
     let reach = reach_of(alloc, gram, column as usize, &found, tau, crit)?;
-    let factors = listed(alloc, &found, scales, column as usize)?;
+    let factors = factor_values(alloc, &found, scales, column as usize)?;
     Ok(ColumnTest { factors, reach })
 }

@@ -14,7 +14,8 @@ use crate::outcome::{Next, left_at};
 use crate::reach::Square;
 use frac_core::{Exact, List};
 use loss_model::{End, Exchange};
-use tableau_model::Step;
+use ratio::Ratio;
+use tableau_model::{Step, WalkingStep};
 use whole_inverse::Obstacle;
 use whole_tableau::WholeTableau;
 
@@ -24,15 +25,15 @@ use whole_tableau::WholeTableau;
 struct Walk<'s, 'a, F: Exact> {
     start: &'s WholeTableau<'a, F>,
     own: Option<WholeTableau<'a, F>>,
-    steps: List<Exchange<F>>,
+    steps: List<Exchange>,
     weight: F,
 }
 
 /// A walk at its end.
 #[derive(Drop)]
-pub struct Arrival<F> {
-    pub steps: List<Exchange<F>>,
-    pub end: End<F>,
+pub struct Arrival {
+    pub steps: List<Exchange>,
+    pub end: End,
 }
 
 impl<'s, 'a, F: Exact> Walk<'s, 'a, F> {
@@ -51,7 +52,7 @@ impl<'s, 'a, F: Exact> Walk<'s, 'a, F> {
         &mut self,
         course: &Course<F>,
         reach: &Square,
-        step: Exchange<F>,
+        step: WalkingStep<F>,
     ) -> Result<(), Obstacle>
         requires step { IsStepAt F.value (here_of self.old) course.now reach.now self.old.weight step }
         ensures { OnOk result (IsAdvanced F.value course.now reach.now self.old self.new) }
@@ -66,7 +67,12 @@ impl<'s, 'a, F: Exact> Walk<'s, 'a, F> {
             Ok(tableau) => drop(self.own.replace(tableau)),
             Err(obstacle) => return Err(obstacle),
         }
-        match self.steps.push(step) {
+        let taken = Exchange {
+            theta: Ratio::widen(self.start.alloc(), step.theta)?,
+            position: step.position,
+            row: step.row,
+        };
+        match self.steps.push(taken) {
             Ok(()) => {}
             Err(_) => return Err(Obstacle::OutOfMemory),
         }
@@ -75,7 +81,7 @@ impl<'s, 'a, F: Exact> Walk<'s, 'a, F> {
     }
 
     /// Makes the walking step that is left, or gives the end.
-    fn advance(&mut self, course: &Course<F>, reach: &Square) -> Result<Option<End<F>>, Obstacle>
+    fn advance(&mut self, course: &Course<F>, reach: &Square) -> Result<Option<End>, Obstacle>
         requires column { course.now.column < (here_of self.old).problem.columns }
         requires reach { 1 ≤ reach.now.under }
         requires optimal { IsOptimalIn (family_of F.value (sample F.value (here_of self.old).problem) course.now) (slice_index (here_of self.old).rows) (place F.value (here_of self.old)).inverse (parameter_at F.value course.now self.old.weight) }
@@ -92,7 +98,7 @@ impl<'s, 'a, F: Exact> Walk<'s, 'a, F> {
     }
 
     /// Makes the walking steps up to the end, within a limit of them. It refuses too where that is reached.
-    fn run(&mut self, course: &Course<F>, reach: &Square, limit: u32) -> Result<End<F>, Obstacle>
+    fn run(&mut self, course: &Course<F>, reach: &Square, limit: u32) -> Result<End, Obstacle>
         requires begun { IsAlong F.value self.old.start.now.problem course.now (bound_by self.old.start.now course.now.column reach.now) self.old.start.now.rows reach.now self.old }
         requires none { self.old.steps ≡ [] }
         requires column { course.now.column < self.old.start.now.problem.columns }
@@ -115,7 +121,7 @@ impl<'s, 'a, F: Exact> Walk<'s, 'a, F> {
     }
 
     /// Ends the walk: the basis is let go, and the steps go on.
-    fn arrive(self, end: End<F>) -> Arrival<F>
+    fn arrive(self, end: End) -> Arrival
         ensures { result ≡ record { steps = self.entry.steps; end = end } }
     {
         let Walk { own, steps, .. } = self;
@@ -130,7 +136,7 @@ pub fn walk_to_end<F: Exact>(
     course: &Course<F>,
     reach: &Square,
     limit: u32,
-) -> Result<Arrival<F>, Obstacle>
+) -> Result<Arrival, Obstacle>
     requires kept { IsKept F.value start.now }
     requires column { course.now.column < start.now.problem.columns }
     requires reach { 1 ≤ reach.now.under }

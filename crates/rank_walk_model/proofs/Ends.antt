@@ -14,7 +14,7 @@ use Rattle.loss_model.specs.declared.problem.Problem.{Problem}
 use Rattle.loss_model.specs.declared.vertex.Side.{Side}
 use Rattle.loss_model.specs.declared.vertex.Vertex.{Vertex}
 use Rattle.loss_model.specs.Sample.{Sample, up_cost, down_cost, fitted, residual}
-use Rattle.loss_model.specs.Problem.{value_at, sample}
+use Rattle.loss_model.specs.Problem.{number_at, sample}
 use Rattle.loss_model.specs.Vertex.{dual_value, IsOn}
 use Rattle.basis_model.specs.Perturbed.{held_coordinate}
 use Rattle.basis_model.specs.Basis.{IsBasis, coefficient, side_at}
@@ -70,7 +70,7 @@ ray_of p tau d r e f same values h i li = by_sign (fitted p r i) (λ s. IsRowAlo
 
 -- ---- the vertex of a basis
 
-module _ {F : Type 0} (value : F → Fraction) (p : Problem F) (tau : ℚ) (right : ℕ → ℚ) (basis : List ℕ) (a : ℕ → ℕ → ℚ) (v : Vertex F) (size : length basis ≡ p.columns)
+module _ {F : Type 0} (value : F → Fraction) (p : Problem F) (tau : ℚ) (right : ℕ → ℚ) (basis : List ℕ) (a : ℕ → ℕ → ℚ) (v : Vertex) (size : length basis ≡ p.columns)
     (b : IsBasis (sample value p) (slice_index basis) a) (vertex : IsVertexAt value p basis a v) where
   abbrev q : Sample
   q = sample value p
@@ -79,22 +79,22 @@ module _ {F : Type 0} (value : F → Fraction) (p : Problem F) (tau : ℚ) (righ
   f = record { sample = q; parameter = by_weight tau; right = right }
 
   -- the values of a list by rows are those of the walk
-  values_are : (s : ℚ) (list : List F) → AreValuesOf value v (dual_in f (slice_index basis) a s) list → (i : ℕ) → i < length p.rows → dual_value value p v list tau i ≡ dual_in f (slice_index basis) a s i
+  values_are : (s : ℚ) (list : List Fraction) → AreValuesOf v (dual_in f (slice_index basis) a s) list → (i : ℕ) → i < length p.rows → dual_value value p v list tau i ≡ dual_in f (slice_index basis) a s i
   values_are s list are = value_by_side value p tau basis a v list size vertex (held_coordinate p.columns (slice_index basis) (basic_at f (slice_index basis) a s)) are.each
 
   -- residuals lie on the sides of the vertex
-  on : (i : ℕ) (side : Side) → slice_get v.sides i ≡ Some side → IsOn side (residual q (value_at value v.coef) i)
+  on : (i : ℕ) (side : Side) → slice_get v.sides i ≡ Some side → IsOn side (residual q (number_at v.coef) i)
   on i side h =
       let li : i < length p.rows = subst (λ n. i < n) vertex.shape.sides (slice_get_within v.sides i side h) in
       let same : Some (side_at q (slice_index basis) a i) ≡ Some side = sym (vertex.sides i li) ∙ h in
       let own : side_at q (slice_index basis) a i ≡ side = cc in
-      subst (λ s. IsOn s (residual q (value_at value v.coef) i)) own
+      subst (λ s. IsOn s (residual q (number_at v.coef) i)) own
       (subst (λ r. IsOn (side_at q (slice_index basis) a i) r) (sym (same_residual i)) (on_side q (slice_index basis) a b i))
     where
-      same_residual : (i : ℕ) → residual q (value_at value v.coef) i ≡ residual q (coefficient q (slice_index basis) a) i
-      same_residual i = ap (λ z. q.y i -ℚ z) (sum_ℚ-same p.columns (λ k. q.x i k *ℚ value_at value v.coef k) (λ k. q.x i k *ℚ coefficient q (slice_index basis) a k) (λ k l. ap (λ z. q.x i k *ℚ z) (vertex.coef k l)))
+      same_residual : (i : ℕ) → residual q (number_at v.coef) i ≡ residual q (coefficient q (slice_index basis) a) i
+      same_residual i = ap (λ z. q.y i -ℚ z) (sum_ℚ-same p.columns (λ k. q.x i k *ℚ number_at v.coef k) (λ k. q.x i k *ℚ coefficient q (slice_index basis) a k) (λ k l. ap (λ z. q.x i k *ℚ z) (vertex.coef k l)))
 
-  module _ (j : ℕ) (crit bound_q : ℚ) (s : ℚ) (list : List F) (are : AreValuesOf value v (dual_in f (slice_index basis) a s) list) where
+  module _ (j : ℕ) (crit bound_q : ℚ) (s : ℚ) (list : List Fraction) (are : AreValuesOf v (dual_in f (slice_index basis) a s) list) where
     pub meets_inside : IsInside q j tau crit bound_q (coefficient q (slice_index basis) a j) (dual_in f (slice_index basis) a s) → MeetsInside value p j tau crit bound_q v list
     meets_inside h =
         record {
@@ -127,10 +127,10 @@ not_zero x bound h out none =
 pub right_end : {F : Type 0} (value : F → Fraction) (p : Problem F) → EndIsRight value p
 right_end {F} value p way j tau crit c start basis a t end test stands h = by way end.bound end.beyond h.break stands h.handed
   where
-    by : (way : Way) (bound : Bound F) (beyond : Beyond F) → IsNextBreak (tested way (sample value p) tau j) (slice_index basis) a t h.u h.k h.d
+    by : (way : Way) (bound : Bound Fraction) (beyond : Beyond) → IsNextBreak (tested way (sample value p) tau j) (slice_index basis) a t h.u h.k h.d
         → StandsAt way (sample value p) j tau crit c start (slice_index basis) a t
         → IsHandedOut value p way j tau (rank_bound tau crit (squared_length (sample value p) j c)) (slice_index basis) a t h.u h.k h.d end.vertex end.inside bound beyond
-        → IsEnd way (sample value p) j tau crit (squared_length (sample value p) j c) start (bound_of value bound)
+        → IsEnd way (sample value p) j tau crit (squared_length (sample value p) j c) start (bound_of bound)
     by way (Finite x) (Outside f) break stands handed =
         subst (λ z. IsEnd way (sample value p) j tau crit (squared_length (sample value p) j c) start (Finite z)) (sym handed.0)
         (ends_here way (sample value p) j tau crit c start (slice_index basis) a t h.u h.k h.d test stands break handed.3).2
@@ -163,7 +163,7 @@ meets {F} value p way j tau crit c start basis a t end test stands h = record_of
         right : ℕ → ℚ
         right k = neg_ℚ (delta j k)
 
-        by : (bound : Bound F) (beyond : Beyond F) → IsHandedOut value p rise j tau (rank_bound tau crit q) (slice_index basis) a t h.u h.k h.d end.vertex end.inside bound beyond
+        by : (bound : Bound Fraction) (beyond : Beyond) → IsHandedOut value p rise j tau (rank_bound tau crit q) (slice_index basis) a t h.u h.k h.d end.vertex end.inside bound beyond
             → MeetsInside value p j tau crit q end.vertex end.inside × MeetsHighBound value p j tau crit q end.vertex end.inside bound beyond
         by (Finite x) (Outside f) handed =
             let ends = ends_here rise (sample value p) j tau crit c start (slice_index basis) a t h.u h.k h.d test stands break handed.3 in
@@ -180,14 +180,14 @@ meets {F} value p way j tau crit c start basis a t end test stands h = record_of
               meets_inside value p tau right basis a end.vertex h.size stands.basis vertex j crit q h.u end.inside handed.0 ends.0,
               (
                 handed.1 j test.column ∙ ends.2,
-                meets_ray value p tau right basis a end.vertex h.size stands.basis vertex j crit q h.u end.inside handed.0 (ray rise a j h.k) (value_at value r) handed.1 ends.1,
+                meets_ray value p tau right basis a end.vertex h.size stands.basis vertex j crit q h.u end.inside handed.0 (ray rise a j h.k) (number_at r) handed.1 ends.1,
               ),
             )
         by (Finite x) (Ray r) handed = absurd handed
         by Infinite (Outside f) handed = absurd handed
     record_of fall vertex break stands handed = record { inside = (by end.bound end.beyond handed).0; bound = (by end.bound end.beyond handed).1 }
       where
-        by : (bound : Bound F) (beyond : Beyond F) → IsHandedOut value p fall j tau (rank_bound tau crit q) (slice_index basis) a t h.u h.k h.d end.vertex end.inside bound beyond
+        by : (bound : Bound Fraction) (beyond : Beyond) → IsHandedOut value p fall j tau (rank_bound tau crit q) (slice_index basis) a t h.u h.k h.d end.vertex end.inside bound beyond
             → MeetsInside value p j tau crit q end.vertex end.inside × MeetsLowBound value p j tau crit q end.vertex end.inside bound beyond
         by (Finite x) (Outside f) handed =
             let ends = ends_here fall (sample value p) j tau crit c start (slice_index basis) a t h.u h.k h.d test stands break handed.3 in
@@ -204,7 +204,7 @@ meets {F} value p way j tau crit c start basis a t end test stands h = record_of
               meets_inside value p tau (delta j) basis a end.vertex h.size stands.basis vertex j crit q h.u end.inside handed.0 ends.0,
               (
                 handed.1 j test.column ∙ ends.2,
-                meets_ray value p tau (delta j) basis a end.vertex h.size stands.basis vertex j crit q h.u end.inside handed.0 (ray fall a j h.k) (value_at value r) handed.1 ends.1,
+                meets_ray value p tau (delta j) basis a end.vertex h.size stands.basis vertex j crit q h.u end.inside handed.0 (ray fall a j h.k) (number_at r) handed.1 ends.1,
               ),
             )
         by (Finite x) (Ray r) handed = absurd handed

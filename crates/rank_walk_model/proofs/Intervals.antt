@@ -8,7 +8,7 @@ use Rattle.rational_laws.proofs.RationalLaws.{≤ℚ_refl}
 use Rattle.rational_laws.specs.Exchange.{exchanged}
 use Rattle.loss_model.specs.declared.problem.Problem.{Problem}
 use Rattle.loss_model.specs.Sample.{Sample}
-use Rattle.loss_model.specs.Problem.{value_at, sample}
+use Rattle.loss_model.specs.Problem.{number_at, sample}
 use Rattle.pivot_model.specs.declared.direction.Direction.{Direction}
 use Rattle.basis_model.specs.Basis.{IsBasis, coefficient}
 use Rattle.pivot_model.specs.Trails.{AtBasis, basis_after}
@@ -74,36 +74,36 @@ module _ (p : Sample) (j : ℕ) (tau crit : ℚ) (c : ℕ → ℚ) (start : ℚ)
       new : IsBasis p (slice_index (slice_set basis k r)) (exchanged p.columns step.a k (p.x r))
       new = next_basis p (slice_index basis) (slice_index (slice_set basis k r)) step.a k r step.holds.direction step.is_basis position first exchange
 
-pub walk_stands : {F : Type 0} (value : F → Fraction) → LawfulWalkStands value
-walk_stands value rise p j tau crit c start basis t [] test here steps = here
-walk_stands value fall p j tau crit c start basis t [] test here steps = here
-walk_stands value rise p j tau crit c start basis t (s ∷ rest) test here (step, steps) =
-    walk_stands value rise p j tau crit c start (slice_set basis s.position s.row) (when_on rise value s.theta) rest test
-    (stands_after p j tau crit c start test rise basis t (when_on rise value s.theta) s.position s.row here step) steps
-walk_stands value fall p j tau crit c start basis t (s ∷ rest) test here (step, steps) =
-    walk_stands value fall p j tau crit c start (slice_set basis s.position s.row) (when_on fall value s.theta) rest test
-    (stands_after p j tau crit c start test fall basis t (when_on fall value s.theta) s.position s.row here step) steps
+pub walk_stands : LawfulWalkStands
+walk_stands rise p j tau crit c start basis t [] test here steps = here
+walk_stands fall p j tau crit c start basis t [] test here steps = here
+walk_stands rise p j tau crit c start basis t (s ∷ rest) test here (step, steps) =
+    walk_stands rise p j tau crit c start (slice_set basis s.position s.row) (when_on rise s.theta) rest test
+    (stands_after p j tau crit c start test rise basis t (when_on rise s.theta) s.position s.row here step) steps
+walk_stands fall p j tau crit c start basis t (s ∷ rest) test here (step, steps) =
+    walk_stands fall p j tau crit c start (slice_set basis s.position s.row) (when_on fall s.theta) rest test
+    (stands_after p j tau crit c start test fall basis t (when_on fall s.theta) s.position s.row here step) steps
 
 -- what is walked from the solved basis is right, and meets its conditions
 module _ {F : Type 0} (value : F → Fraction) (p : Problem F) (j : ℕ) (tau crit : ℚ) (c : ℕ → ℚ) (start : ℚ) (test : IsTest (sample value p) j tau c) where
   abbrev q : ℚ
   q = squared_length (sample value p) j c
 
-  ended : (way : Way) (basis : List ℕ) (t : ℚ) (end : End F) → StandsIn way (sample value p) j tau crit c start basis t
+  ended : (way : Way) (basis : List ℕ) (t : ℚ) (end : End) → StandsIn way (sample value p) j tau crit c start basis t
       → AtBasis (sample value p) basis (λ a. IsEndAt value p way j tau (rank_bound tau crit q) basis a t end)
-      → IsEnd way (sample value p) j tau crit q start (bound_of value end.bound) × MeetsOn way value p j tau crit q end
+      → IsEnd way (sample value p) j tau crit q start (bound_of end.bound) × MeetsOn way value p j tau crit q end
   ended way basis t end here there =
       let stands = subst (λ a. StandsAt way (sample value p) j tau crit c start (slice_index basis) a t)
       (same_inverse (sample value p) (slice_index basis) here.a there.a here.is_basis there.is_basis here.ends there.ends) here.holds in
       (right_end value p way j tau crit c start basis there.a t end test stands there.holds, meets value p way j tau crit c start basis there.a t end test stands there.holds)
 
-pub exact_interval : {F : Type 0} (value : F → Fraction) (p : Problem F) (interval : Interval F) → LawfulIntervalIsExact value p interval
+pub exact_interval : {F : Type 0} (value : F → Fraction) (p : Problem F) (interval : Interval) → LawfulIntervalIsExact value p interval
 exact_interval {F} value p interval asked of =
     record {
-      exact = exact s j tau crit start c (bound_of value interval.low.bound) (bound_of value interval.high.bound) asked.column of.right.projection low_end.0 high_end.0;
+      exact = exact s j tau crit start c (bound_of interval.low.bound) (bound_of interval.high.bound) asked.column of.right.projection low_end.0 high_end.0;
       low = low_end.1;
       high = high_end.1;
-      order = by (bound_of value interval.low.bound) (bound_of value interval.high.bound) low_end.0 high_end.0;
+      order = by (bound_of interval.low.bound) (bound_of interval.high.bound) low_end.0 high_end.0;
     }
   where
     s : Sample
@@ -113,10 +113,10 @@ exact_interval {F} value p interval asked of =
     j = interval.column
 
     tau : ℚ
-    tau = rational (value interval.tau)
+    tau = rational interval.tau
 
     crit : ℚ
-    crit = rational (value interval.crit)
+    crit = rational interval.crit
 
     c : ℕ → ℚ
     c = of.factors
@@ -139,15 +139,15 @@ exact_interval {F} value p interval asked of =
               (bound_not_negative s j tau crit c asked.crit asked.tau_above asked.tau_below);
         }
 
-    high_end : IsEnd rise s j tau crit (squared_length s j c) start (bound_of value interval.high.bound) × MeetsOn rise value p j tau crit (squared_length s j c) interval.high
+    high_end : IsEnd rise s j tau crit (squared_length s j c) start (bound_of interval.high.bound) × MeetsOn rise value p j tau crit (squared_length s j c) interval.high
     high_end =
         ended value p j tau crit c start test rise (basis_after of.right.solved interval.trail.rise) _ interval.high
-        (walk_stands value rise s j tau crit c start of.right.solved (whole (pos 0)) interval.trail.rise test (begins rise) of.right.lawful.rose) of.right.high
+        (walk_stands rise s j tau crit c start of.right.solved (whole (pos 0)) interval.trail.rise test (begins rise) of.right.lawful.rose) of.right.high
 
-    low_end : IsEnd fall s j tau crit (squared_length s j c) start (bound_of value interval.low.bound) × MeetsOn fall value p j tau crit (squared_length s j c) interval.low
+    low_end : IsEnd fall s j tau crit (squared_length s j c) start (bound_of interval.low.bound) × MeetsOn fall value p j tau crit (squared_length s j c) interval.low
     low_end =
         ended value p j tau crit c start test fall (basis_after of.right.solved interval.trail.fall) _ interval.low
-        (walk_stands value fall s j tau crit c start of.right.solved (whole (pos 0)) interval.trail.fall test (begins fall) of.right.lawful.fell) of.right.low
+        (walk_stands fall s j tau crit c start of.right.solved (whole (pos 0)) interval.trail.fall test (begins fall) of.right.lawful.fell) of.right.low
 
     holds : Holds s j tau crit start
     holds = (begins rise).holds.holds start (≤ℚ_refl start) (≤ℚ_refl start)
@@ -158,7 +158,7 @@ exact_interval {F} value p interval asked of =
     by Infinite (Finite hi) l h = tt
     by Infinite Infinite l h = tt
 
-pub passes : {F : Type 0} (value : F → Fraction) (p : Problem F) (interval : Interval F) → WrittenIntervalPasses value p interval
+pub passes : {F : Type 0} (value : F → Fraction) (p : Problem F) (interval : Interval) → WrittenIntervalPasses value p interval
 passes value p interval rows above below asked of positive =
     let known = exact_interval value p interval asked of in
     record {
@@ -174,8 +174,8 @@ passes value p interval rows above below asked of positive =
       order = known.order;
     }
 
-module _ {F : Type 0} (value : F → Fraction) (p : Problem F) (interval : Interval F) (factors : List F) where
-  certified : MeetsConditionsBy value p interval (value_at value factors) → MeetsConditions value p (stated interval factors)
+module _ {F : Type 0} (value : F → Fraction) (p : Problem F) (interval : Interval) (factors : List Fraction) where
+  certified : MeetsConditionsBy value p interval (number_at factors) → MeetsConditions value p (stated interval factors)
   certified m =
       record {
         column = m.column;
@@ -190,7 +190,7 @@ module _ {F : Type 0} (value : F → Fraction) (p : Problem F) (interval : Inter
         order = m.order;
       }
 
-  by_factors : MeetsConditions value p (stated interval factors) → MeetsConditionsBy value p interval (value_at value factors)
+  by_factors : MeetsConditions value p (stated interval factors) → MeetsConditionsBy value p interval (number_at factors)
   by_factors m =
       record {
         column = m.column;
@@ -206,15 +206,15 @@ module _ {F : Type 0} (value : F → Fraction) (p : Problem F) (interval : Inter
       }
 
   module _ (there : interval.projection ≡ Some factors) where
-    listed_is : (c : ℕ → ℚ) → IfSome interval.projection (λ list. value_at value list ≡ c) → value_at value factors ≡ c
-    listed_is c h = subst (λ (o : Option (List F)). IfSome o (λ list. value_at value list ≡ c)) there h
+    listed_is : (c : ℕ → ℚ) → IfSome interval.projection (λ list. number_at list ≡ c) → number_at factors ≡ c
+    listed_is c h = subst (λ (o : Option (List Fraction)). IfSome o (λ list. number_at list ≡ c)) there h
 
-    pub by_list : IsIntervalOf value p interval ↔ IsIntervalBy value p interval (value_at value factors)
+    pub by_list : IsIntervalOf value p interval ↔ IsIntervalBy value p interval (number_at factors)
     by_list = (
       λ of. subst (IsIntervalBy value p interval) (sym (listed_is of.factors of.listed)) of.right,
       λ right. record {
-        factors = value_at value factors;
-        listed = subst (λ (o : Option (List F)). IfSome o (λ list. value_at value list ≡ value_at value factors)) (sym there) refl;
+        factors = number_at factors;
+        listed = subst (λ (o : Option (List Fraction)). IfSome o (λ list. number_at list ≡ number_at factors)) (sym there) refl;
         right = right;
       },
     )
@@ -225,17 +225,17 @@ module _ {F : Type 0} (value : F → Fraction) (p : Problem F) (interval : Inter
       λ m. subst (MeetsConditionsBy value p interval) (listed_is of.factors of.listed) (by_factors m),
     )
 
-pub listed : {F : Type 0} (value : F → Fraction) (p : Problem F) (interval : Interval F) → ListedIntervalIsCertified value p interval
+pub listed : {F : Type 0} (value : F → Fraction) (p : Problem F) (interval : Interval) → ListedIntervalIsCertified value p interval
 listed value p interval = record { by_list = by_list value p interval; conditions = conditions value p interval }
 
 -- what is stated of intervals is stated of each
-pub stated_each : {F : Type 0} (rs : List (Interval F)) (xs : List (IntervalProof F)) → map Some xs ≡ map statement rs
-    → AllZip (λ r x. (factors : List F) × (r.projection ≡ Some factors) × (x ≡ stated r factors)) rs xs
+pub stated_each : (rs : List (Interval)) (xs : List (IntervalProof)) → map Some xs ≡ map statement rs
+    → AllZip (λ r x. (factors : List Fraction) × (r.projection ≡ Some factors) × (x ≡ stated r factors)) rs xs
 stated_each [] [] e = tt
 stated_each [] (x ∷ xs) e = absurd (cc e)
 stated_each (r ∷ rs) [] e = absurd (cc e)
-stated_each {F} (r ∷ rs) (x ∷ xs) e = (by r.projection refl (cc e), stated_each rs xs (cc e))
+stated_each (r ∷ rs) (x ∷ xs) e = (by r.projection refl (cc e), stated_each rs xs (cc e))
   where
-    by : (o : Option (List F)) → r.projection ≡ o → Some x ≡ option_map (stated r) o → (factors : List F) × (r.projection ≡ Some factors) × (x ≡ stated r factors)
+    by : (o : Option (List Fraction)) → r.projection ≡ o → Some x ≡ option_map (stated r) o → (factors : List Fraction) × (r.projection ≡ Some factors) × (x ≡ stated r factors)
     by None is h = absurd (cc h)
     by (Some factors) is h = (factors, is, cc h)

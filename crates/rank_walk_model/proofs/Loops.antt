@@ -67,7 +67,7 @@ module _ {F : Type 0} (value : F → Fraction) (p : Problem F) where
           optimal_stays f (slice_index basis) (slice_index (slice_set basis k r)) a (exchanged p.columns a k (q.x r)) u k r step.direction b new_basis exchange step.break.position step.entering step.break.crosses.meets costs there
 
   -- a fact of a basis, at the basis to which steps have led
-  pub at_led : (solved : List ℕ) (steps : List (Exchange F)) (basis : List ℕ) (a : ℕ → ℕ → ℚ) → basis_after solved steps ≡ basis → length basis ≡ p.columns → IsBasis q (slice_index basis) a → EndsAt p.columns a
+  pub at_led : (solved : List ℕ) (steps : List Exchange) (basis : List ℕ) (a : ℕ → ℕ → ℚ) → basis_after solved steps ≡ basis → length basis ≡ p.columns → IsBasis q (slice_index basis) a → EndsAt p.columns a
       → (Q : List ℕ → (ℕ → ℕ → ℚ) → Type 0) → Q basis a → AtBasis q (basis_after solved steps) (Q (basis_after solved steps))
   at_led solved steps basis a leads size b ends Q h =
       subst (λ basis. AtBasis q basis (Q basis)) (sym leads) (record { size = size; a = a; is_basis = b; ends = ends; holds = h })
@@ -75,7 +75,7 @@ module _ {F : Type 0} (value : F → Fraction) (p : Problem F) where
   pub goes_on : LoopGoesOn value p
   goes_on rise j tau bound solved steps t basis a x costs w step =
       let right = λ (k : ℕ). neg_ℚ (delta j k) in
-      let when = when_on rise value in
+      let when = when_on rise in
       let f = tested rise q tau j in
       record {
         walked = steps_more when f (is_within bound) (whole (pos 0)) solved steps x w.walked
@@ -89,7 +89,7 @@ module _ {F : Type 0} (value : F → Fraction) (p : Problem F) where
         optimal = new_stop tau right (is_within bound) t (when x.theta) x.position x.row basis a w.size w.is_basis costs w.optimal step;
       }
   goes_on fall j tau bound solved steps t basis a x costs w step =
-      let when = when_on fall value in
+      let when = when_on fall in
       let f = tested fall q tau j in
       record {
         walked = steps_more when f (is_within bound) (whole (pos 0)) solved steps x w.walked
@@ -106,5 +106,5 @@ module _ {F : Type 0} (value : F → Fraction) (p : Problem F) where
   pub done : LoopIsDone value p
   done way j tau bound solved steps t basis a end w h =
       at_led solved steps basis a w.leads w.size w.is_basis w.ends
-      (λ basis a. IsEndAt value p way j tau bound basis a (value_after (when_on way value) (tested way q tau j) (is_within bound) (whole (pos 0)) steps) end)
+      (λ basis a. IsEndAt value p way j tau bound basis a (value_after (when_on way) (tested way q tau j) (is_within bound) (whole (pos 0)) steps) end)
       (subst (λ t. IsEndAt value p way j tau bound basis a t end) (sym w.reaches) h)

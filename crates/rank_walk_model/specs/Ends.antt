@@ -5,7 +5,7 @@ use Rattle.rational_laws.specs.Fraction.{Fraction, rational}
 use Rattle.rational_laws.specs.Rational.{ℚ, ◌*ℚ◌, ◌≤ℚ◌}
 use Rattle.loss_model.specs.declared.problem.Problem.{Problem}
 use Rattle.loss_model.specs.declared.vertex.Vertex.{Vertex}
-use Rattle.loss_model.specs.Problem.{value_at, sample}
+use Rattle.loss_model.specs.Problem.{number_at, sample}
 use Rattle.pivot_model.specs.declared.direction.Direction.{Direction}
 use Rattle.basis_model.specs.Basis.{coefficient}
 use Rattle.pivot_model.specs.Results.{IsVertexAt}
@@ -23,24 +23,24 @@ use Rattle.rank_model.specs.Certified.{bound_of, MeetsHigh, MeetsLow}
 use Rattle.rank_walk_model.specs.RankWalks.{Way, rise, fall, tested, ray, StandsAt, IsTest, IsEnd}
 
 -- the list has the values e of the basic rows of the vertex, by ascending row
-pub record AreValuesOf {F : Type 0} (value : F → Fraction) (v : Vertex F) (e : ℕ → ℚ) (list : List F) : Type 0 where
+pub record AreValuesOf (v : Vertex) (e : ℕ → ℚ) (list : List Fraction) : Type 0 where
   pub size : length list ≡ length v.basis.rows
-  pub each : (k : ℕ) → k < length v.basis.rows → value_at value list k ≡ e (slice_index v.basis.rows k)
+  pub each : (k : ℕ) → k < length v.basis.rows → number_at list k ≡ e (slice_index v.basis.rows k)
 
 module _ {F : Type 0} (value : F → Fraction) (p : Problem F) (way : Way) (j : ℕ) (tau bound : ℚ) (at : ℕ → ℕ) (a : ℕ → ℕ → ℚ) (t u : ℚ) (k : ℕ)
     (d : Direction) where
   -- the next breakpoint is beyond the bound: the end is the coefficient, with the dual values at which
   -- the basis was entered, and those at the breakpoint; or it is within, and no row moves towards 0:
   -- there is no end, and the ray is that of the row that would leave
-  abbrev pub IsHandedOut : Vertex F → List F → Bound F → Beyond F → Type 0
+  abbrev pub IsHandedOut : Vertex → List Fraction → Bound Fraction → Beyond → Type 0
   IsHandedOut v inside (Finite x) (Outside f) =
-      (rational (value x) ≡ coefficient (sample value p) at a j)
-      × AreValuesOf value v (dual_in (tested way (sample value p) tau j) at a t) inside
-      × AreValuesOf value v (dual_in (tested way (sample value p) tau j) at a u) f
+      (rational x ≡ coefficient (sample value p) at a j)
+      × AreValuesOf v (dual_in (tested way (sample value p) tau j) at a t) inside
+      × AreValuesOf v (dual_in (tested way (sample value p) tau j) at a u) f
       × (bound <ℚ (u *ℚ u))
   IsHandedOut v inside Infinite (Ray r) =
-      AreValuesOf value v (dual_in (tested way (sample value p) tau j) at a u) inside
-      × ((m : ℕ) → m < p.columns → value_at value r m ≡ ray way a j k m)
+      AreValuesOf v (dual_in (tested way (sample value p) tau j) at a u) inside
+      × ((m : ℕ) → m < p.columns → number_at r m ≡ ray way a j k m)
       × ((u *ℚ u) ≤ℚ bound)
       × ((i : ℕ) → i < length p.rows → moves (sample value p) at a k d i ≡ false)
       × (length r ≡ p.columns)
@@ -48,7 +48,7 @@ module _ {F : Type 0} (value : F → Fraction) (p : Problem F) (way : Way) (j : 
 
 -- the end of the walk at its last basis, which it entered at t; the next breakpoint is u, at position k
 pub record IsEndAt {F : Type 0} (value : F → Fraction) (p : Problem F) (way : Way) (j : ℕ) (tau bound : ℚ) (basis : List ℕ) (a : ℕ → ℕ → ℚ) (t : ℚ)
-    (end : End F) : Type 0 where
+    (end : End) : Type 0 where
   pub size : length basis ≡ p.columns
   pub vertex : IsVertexAt value p basis a end.vertex
   pub u : ℚ
@@ -60,20 +60,20 @@ pub record IsEndAt {F : Type 0} (value : F → Fraction) (p : Problem F) (way : 
 -- what the walk hands out is the end of the interval on its side
 abbrev pub EndIsRight : {F : Type 0} → (F → Fraction) → Problem F → Type 0
 EndIsRight {F} value p =
-    (way : Way) (j : ℕ) (tau crit : ℚ) (c : ℕ → ℚ) (start : ℚ) (basis : List ℕ) (a : ℕ → ℕ → ℚ) (t : ℚ) (end : End F)
+    (way : Way) (j : ℕ) (tau crit : ℚ) (c : ℕ → ℚ) (start : ℚ) (basis : List ℕ) (a : ℕ → ℕ → ℚ) (t : ℚ) (end : End)
     → IsTest (sample value p) j tau c → StandsAt way (sample value p) j tau crit c start (slice_index basis) a t
     → IsEndAt value p way j tau (rank_bound tau crit (squared_length (sample value p) j c)) basis a t end
-    → IsEnd way (sample value p) j tau crit (squared_length (sample value p) j c) start (bound_of value end.bound)
+    → IsEnd way (sample value p) j tau crit (squared_length (sample value p) j c) start (bound_of end.bound)
 
 -- the conditions of a certificate on an end of that side
-abbrev pub MeetsOn : {F : Type 0} → Way → (F → Fraction) → Problem F → ℕ → ℚ → ℚ → ℚ → End F → Type 0
+abbrev pub MeetsOn : {F : Type 0} → Way → (F → Fraction) → Problem F → ℕ → ℚ → ℚ → ℚ → End → Type 0
 MeetsOn rise value p j tau crit q end = MeetsHigh value p j tau crit q end
 MeetsOn fall value p j tau crit q end = MeetsLow value p j tau crit q end
 
 -- what the walk hands out meets them
 abbrev pub EndMeetsConditions : {F : Type 0} → (F → Fraction) → Problem F → Type 0
 EndMeetsConditions {F} value p =
-    (way : Way) (j : ℕ) (tau crit : ℚ) (c : ℕ → ℚ) (start : ℚ) (basis : List ℕ) (a : ℕ → ℕ → ℚ) (t : ℚ) (end : End F)
+    (way : Way) (j : ℕ) (tau crit : ℚ) (c : ℕ → ℚ) (start : ℚ) (basis : List ℕ) (a : ℕ → ℕ → ℚ) (t : ℚ) (end : End)
     → IsTest (sample value p) j tau c → StandsAt way (sample value p) j tau crit c start (slice_index basis) a t
     → IsEndAt value p way j tau (rank_bound tau crit (squared_length (sample value p) j c)) basis a t end
     → MeetsOn way value p j tau crit (squared_length (sample value p) j c) end

@@ -35,8 +35,8 @@ pub fn crossings()
 
 /// An interval whose trail is lawful and whose ends are those of its walks bounds exactly the values
 /// that hold; and where it lists the factors of its projection, it meets the conditions of a certificate with them.
-pub fn lawful_interval<F: Exact>(problem: &Problem<F>, interval: &Interval<F>)
-    ensures stands { LawfulWalkStands F.value }
+pub fn lawful_interval<F: Exact>(problem: &Problem<F>, interval: &Interval)
+    ensures stands { LawfulWalkStands }
     ensures exact { LawfulIntervalIsExact F.value problem.now interval.now }
     ensures passes { WrittenIntervalPasses F.value problem.now interval.now }
     ensures listed { ListedIntervalIsCertified F.value problem.now interval.now }

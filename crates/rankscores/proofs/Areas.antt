@@ -1,12 +1,12 @@
 -- Cross products of the rankscore of a row, one segment after another, and the place of a row.
-use Rattle.std.proofs.Common.{◌≡◌, ◌<◌, ◌≤◌, ◌+◌, ◌-◌, ℕ, zero, suc, Bool, true, false, nat_lt, MatchResult, List, Option, None, Some, Contains}
-use Rattle.std.proofs.Common.{Result, Ok, Err, IfSome, IsOk, get_or, length, slice_get, pos, arith, refl, sym, ap, ap₂, subst, ◌∙◌, []}
+use Rattle.std.proofs.Common.{◌≡◌, ◌<◌, ◌≤◌, ◌+◌, ◌-◌, ℕ, zero, suc, Bool, true, false, nat_lt, MatchResult, List, Option, Some, Contains}
+use Rattle.std.proofs.Common.{Result, Ok, Err, IsOk, add-one, get_or, length, slice_get, pos, arith, refl, sym, ap, ap₂, subst, ◌∙◌, []}
 use Rattle.std.specs.List.Sorted.{IsBinarySearchResult, IsStrictlyIncreasing}
 use Rattle.std.specs.Ordering.{nat_cmp}
 use Rattle.std.specs.Option.{option_map_or}
 use Rattle.std.proofs.lemmas.Bool.{ltb-false, ltb-true}
 use Rattle.std.proofs.lemmas.List.Sorted.{searched}
-use Rattle.std.proofs.lemmas.Option.{slice_get-get_or}
+use Rattle.std.proofs.lemmas.Option.{slice_get-get_or, slice_get_read}
 use Rattle.rational_laws.specs.Solver.{number, ◌⊞◌}
 use Rattle.rational_laws.specs.Rational.{ℚ, ◌+ℚ◌, whole}
 use Rattle.rational_laws.specs.Fraction.{Fraction, rational}
@@ -18,56 +18,62 @@ use Rattle.loss_model.specs.Dual.{rankscore}
 use Rattle.loss_model.specs.Problem.{sample}
 use Rattle.loss_model.specs.Segment.{dual_at, segments_of}
 use Rattle.loss_model.proofs.Vertices.{ascending}
-use Rattle.rankscores.specs.Rows.{cross, cross_to, run_length, score_cross, segment_cross, IsIntegrable}
+use Rattle.rankscores.specs.Rows.{cross, cross_to, open_end, score_cross, segment_cross, IsIntegrable}
 
-module _ {F : Type 0} (value : F → Fraction) (p : Problem F) (segments : List (Segment F)) (i : ℕ) where
+module _ {F : Type 0} (value : F → Fraction) (p : Problem F) (segments : List Segment) (i : ℕ) where
   -- a number of a segment, if there is one
-  abbrev of : Option (Segment F) → (Segment F → ℚ) → ℚ
+  abbrev of : Option Segment → (Segment → ℚ) → ℚ
   of o part = option_map_or part o (whole (pos 0))
 
-  abbrev low : Option (Segment F) → ℚ
-  low o = of o (λ s. rational (value s.lo))
+  abbrev low : Option Segment → ℚ
+  low o = of o (λ s. rational s.lo)
 
-  abbrev high : Option (Segment F) → ℚ
-  high o = of o (λ s. rational (value s.hi))
+  abbrev high : Option Segment → ℚ
+  high o = of o (λ s. rational s.hi)
 
-  abbrev low_score : Option (Segment F) → ℚ
+  abbrev low_score : Option Segment → ℚ
   low_score o = rankscore (sample value p) (low o) (λ i. of o (λ s. dual_at value p s.vertex s.basic_lo s.lo i)) i
 
-  abbrev high_score : Option (Segment F) → ℚ
+  abbrev high_score : Option Segment → ℚ
   high_score o = rankscore (sample value p) (high o) (λ i. of o (λ s. dual_at value p s.vertex s.basic_hi s.hi i)) i
 
-  -- the terms of the first j segments and the run that is open, whose end is that of the last of them
-  pub record AreTo (j : ℕ) (t : ℚ) (run : Option F) (end : F) : Type 0 where
-    pub crossed : t +ℚ run_length value run end ≡ cross_to value p segments i j
-    pub ended : 0 < j → rational (value end) ≡ (segments_of value p segments).hi (j - 1)
-    pub none : j ≡ 0 → run ≡ None
+  -- where the first j segments end
+  abbrev ended : ℕ → ℚ
+  ended zero = whole (pos 0)
+  ended (suc j) = (segments_of value p segments).hi j
 
-  pub crosses_none : (t : ℚ) (end : F) → t ≡ whole (pos 0) → AreTo 0 t None end
-  crosses_none t end e = record { crossed = ap (λ z. z +ℚ whole (pos 0)) e ∙ ring_ℚ [] (number (pos 0) ⊞ number (pos 0)) (number (pos 0)) refl; ended = λ l. absurd (omega (arith, l)); none = λ z. refl }
+  -- the terms of the first j segments, behind which a run may be open
+  abbrev pub IsCrossedTo : ℕ → ℚ → Bool → Type 0
+  IsCrossedTo j t is_open = t +ℚ open_end is_open (ended j) ≡ cross_to value p segments i j
 
-  module _ (j : ℕ) (s : Segment F) (there : slice_get segments j ≡ Some s) where
-    cross_is : score_cross (sample value p) (segments_of value p segments) i j ≡ segment_cross value p s i
-    cross_is = ap (λ o. cross (low o) (high o) (low_score o) (high_score o)) there
+  pub crossed_none : (t : ℚ) → t ≡ whole (pos 0) → IsCrossedTo 0 t false
+  crossed_none t e = ap (λ z. z +ℚ whole (pos 0)) e ∙ ring_ℚ [] (number (pos 0) ⊞ number (pos 0)) (number (pos 0)) refl
 
-    -- an open run ends where the next segment begins
-    pub run_joined : (t : ℚ) (run : Option F) (end : F) → j < length segments → IsIntegrable value p segments i → AreTo j t run end → IfSome run (λ _. rational (value end) ≡ rational (value s.lo))
-    run_joined t None end l ok h = tt
-    run_joined t (Some start) end l ok h = by j refl
-      where
-        by : (k : ℕ) → j ≡ k → rational (value end) ≡ rational (value s.lo)
-        by zero e = absurd (cc (h.none e))
-        by (suc k) e =
-            let some : 0 < j = omega arith in
-            let f : j - 1 + 1 ≡ j = omega arith in
-            h.ended some ∙ ok.covers.joined (j - 1) (omega arith) ∙ ap (segments_of value p segments).lo f ∙ ap low there
+  module _ (ok : IsIntegrable value p segments i) where
+    -- a segment begins where those before it end
+    begins : (j : ℕ) → j < length segments → ended j ≡ (segments_of value p segments).lo j
+    begins zero l = sym ok.covers.first
+    begins (suc j) l = ok.covers.joined j (omega (arith, l)) ∙ ap (segments_of value p segments).lo (add-one j)
 
-    pub cross_more : (t u : ℚ) (run next : Option F) (end : F) → AreTo j t run end → u +ℚ run_length value next s.hi ≡ (t +ℚ run_length value run end) +ℚ segment_cross value p s i → AreTo (j + 1) u next s.hi
-    cross_more t u run next end h e = record {
-      crossed = e ∙ ap₂ (λ a b. a +ℚ b) h.crossed (sym cross_is) ∙ sym (sum_ℚ-next j (score_cross (sample value p) (segments_of value p segments) i));
-      ended = λ l. let f : j ≡ j + 1 - 1 = omega arith in sym (ap high there) ∙ ap (segments_of value p segments).hi f;
-      none = λ z. absurd (omega (arith, z));
-    }
+    module _ (j : ℕ) (s : Segment) (within : j < length segments) (there : slice_get segments j ≡ Some s) where
+      cross_is : score_cross (sample value p) (segments_of value p segments) i j ≡ segment_cross value p s i
+      cross_is = ap (λ o. cross (low o) (high o) (low_score o) (high_score o)) there
+
+      pub cross_more : (t u : ℚ) (is_open next : Bool) → IsCrossedTo j t is_open → u +ℚ open_end next (rational s.hi) ≡ (t +ℚ open_end is_open (rational s.lo)) +ℚ segment_cross value p s i → IsCrossedTo (j + 1) u next
+      cross_more t u is_open next h e =
+          ap (λ z. u +ℚ open_end next z) (ap ended (add-one j) ∙ ap high there) ∙ e
+          ∙ ap₂ (λ a b. a +ℚ b) (ap (λ z. t +ℚ open_end is_open z) (sym (begins j within ∙ ap low there)) ∙ h) (sym cross_is)
+          ∙ sym (sum_ℚ-next j (score_cross (sample value p) (segments_of value p segments) i))
+
+    -- the last segment ends them
+    pub crossed_all : (j : ℕ) (last : Segment) (t u : ℚ) (is_open : Bool) → j ≡ length segments → last ≡ get_or segments (length segments - 1) last → IsCrossedTo j t is_open → u ≡ t +ℚ open_end is_open (rational last.hi)
+        → u ≡ cross_to value p segments i (length segments)
+    crossed_all j last t u is_open end is h closed =
+        let all : suc (length segments - 1) ≡ length segments = omega (arith, ok.covers.some) in
+        closed
+        ∙ ap (λ z. t +ℚ open_end is_open z)
+        (sym (ap high (slice_get_read segments (length segments) (length segments - 1) last refl (omega (arith, ok.covers.some)) is)) ∙ ap ended (all ∙ sym end))
+        ∙ h ∙ ap (cross_to value p segments i) end
 
 -- ---- the place of a row
 

@@ -4,7 +4,6 @@ pub mod Integrals
 pub mod Rankscores
 pub mod Runs
 pub mod Shares
-pub mod Stretches
 pub mod Surveyed
 pub mod WilcoxonLaws
 pub mod Wilcoxons

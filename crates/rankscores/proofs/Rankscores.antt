@@ -1,6 +1,6 @@
 -- The rankscore of the basic row at a place of the list.
-use Rattle.std.proofs.Common.{◌≡◌, ◌≢◌, ◌<◌, ◌≤◌, ◌+◌, ℕ, Bool, List, [], ◌∷◌, ◌++◌, All, length, map, get_or, slice_index, take, Contains, pos, arith, refl, sym, ap, subst, ◌∙◌, if◌then◌else◌}
-use Rattle.std.proofs.lemmas.Bool.{le-ltb, lt-ltb}
+use Rattle.std.proofs.Common.{◌≡◌, ◌<◌, ◌≤◌, ◌+◌, ℕ, Bool, List, [], ◌∷◌, ◌++◌, All, length, map, get_or, slice_index, take, Contains, pos, arith, refl, sym, ap, subst, ◌∙◌, if◌then◌else◌}
+use Rattle.std.proofs.lemmas.Bool.{le-ltb}
 use Rattle.std.proofs.lemmas.List.{map-append, take_more}
 use Rattle.std.proofs.lemmas.List.Elements.{All-append, All-cons, All-nil}
 use Rattle.std.proofs.lemmas.Option.{slice_get_read}
@@ -11,118 +11,87 @@ use Rattle.rational_laws.proofs.Lists.{contains_item}
 use Rattle.loss_model.specs.declared.problem.Row.{Row}
 use Rattle.loss_model.specs.declared.problem.Problem.{Problem}
 use Rattle.loss_model.specs.declared.process.Segment.{Segment}
-use Rattle.loss_model.specs.declared.spill.Spill.{Spill}
 use Rattle.loss_model.specs.declared.vertex.Side.TheVariants.{Basic}
 use Rattle.loss_model.specs.declared.vertex.Vertex.{Vertex}
-use Rattle.loss_model.specs.Problem.{of_row, sample, value_at}
+use Rattle.loss_model.specs.Problem.{number_at, of_row, sample}
 use Rattle.loss_model.specs.Vertex.{IsVertexOf, basic_value, dual_value}
 use Rattle.loss_model.proofs.Vertices.{basic_value-at, dual_value-at}
 use Rattle.loss_model.proofs.Products.{value_at-item}
 use Rattle.rankscores.specs.declared.pair.ScorePair.{ScorePair}
-use Rattle.rankscores.specs.Scores.{dual_of, row_score, score}
-use Rattle.rankscores.specs.Spills.{score_site, IsEndSpill, IsScoreSpill}
+use Rattle.rankscores.specs.Scores.{dual_of, row_score, score, IsScorable}
 
 -- a number of a row that was read
 row_read : {F : Type 0} (rows : List (Row F)) (number : Row F → ℚ) (i : ℕ) (r : Row F) → i < length rows → r ≡ get_or rows i r → of_row rows number i ≡ number r
 row_read rows number i r within is = ap (λ o. option_map_or number o (whole (pos 0))) (slice_get_read rows (length rows) i r refl within is)
 
-module _ {F : Type 0} (value : F → Fraction) (p : Problem F) (v : Vertex F) (basic : List F) (theta : F) (shape : IsVertexOf p v) (place row : ℕ) (within : place < length v.basis.rows) (at : row ≡ slice_index v.basis.rows place)
+module _ {F : Type 0} (value : F → Fraction) (p : Problem F) (v : Vertex) (basic : List Fraction) (theta : Fraction) (shape : IsVertexOf p v) (place row : ℕ) (within : place < length v.basis.rows) (at : row ≡ slice_index v.basis.rows place)
     (inside : row < length p.rows) where
   there : Contains v.basis.rows row
   there = subst (Contains v.basis.rows) (sym at) (contains_item v.basis.rows place within)
 
   -- the dual value of the row is that of its place
-  dual_at_place : dual_value value p v basic (rational (value theta)) row ≡ value_at value basic place
+  dual_at_place : dual_value value p v basic (rational theta) row ≡ number_at basic place
   dual_at_place =
-      dual_value-at value p v basic (rational (value theta)) row Basic ((shape.basic row inside).1 there)
-      ∙ ap (basic_value value v basic) at ∙ basic_value-at value v basic shape.ascending place within
+      dual_value-at value p v basic (rational theta) row Basic ((shape.basic row inside).1 there)
+      ∙ ap (basic_value v basic) at ∙ basic_value-at v basic shape.ascending place within
 
-  module _ (dual weight : ℚ) (is_dual : dual ≡ value_at value basic place) (is_weight : weight ≡ (sample value p).up1 row) where
-    pub score_is : ((dual *ℚ inverse weight) +ℚ whole (pos 1)) -ℚ rational (value theta) ≡ score value p v basic theta row
+  module _ (dual weight : ℚ) (is_dual : dual ≡ number_at basic place) (is_weight : weight ≡ (sample value p).up1 row) where
+    pub score_is : ((dual *ℚ inverse weight) +ℚ whole (pos 1)) -ℚ rational theta ≡ score value p v basic theta row
     score_is =
-        ap (λ e. ((e *ℚ inverse weight) +ℚ whole (pos 1)) -ℚ rational (value theta)) (is_dual ∙ sym dual_at_place)
-        ∙ ap (λ w. ((dual_value value p v basic (rational (value theta)) row *ℚ inverse w) +ℚ whole (pos 1)) -ℚ rational (value theta)) is_weight
+        ap (λ e. ((e *ℚ inverse weight) +ℚ whole (pos 1)) -ℚ rational theta) (is_dual ∙ sym dual_at_place)
+        ∙ ap (λ w. ((dual_value value p v basic (rational theta) row *ℚ inverse w) +ℚ whole (pos 1)) -ℚ rational theta) is_weight
 
-    -- an operation of it is one of a basic row
-    pub end_spill : (range n number end : ℕ) (s : Spill F) → row < n → IsScoreSpill value range (score_site row end number) dual weight (rational (value theta)) s
-        → IsEndSpill value range p n number end v basic (rational (value theta)) s
-    end_spill range n number end s small h =
-        record {
-          row = row;
-          basic_row = there;
-          data_row = small;
-          operation = subst (λ w. IsScoreSpill value range (score_site row end number) (dual_value value p v basic (rational (value theta)) row) w (rational (value theta)) s) is_weight
-              (subst (λ e. IsScoreSpill value range (score_site row end number) e weight (rational (value theta)) s) (is_dual ∙ sym dual_at_place) h);
-        }
-
--- the score of a data row, and of a later one
-module _ {F : Type 0} (value : F → Fraction) (p : Problem F) (n : ℕ) (v : Vertex F) (basic : List F) (theta : F) (row : ℕ) where
+-- what is told of a later row
+module _ {F : Type 0} (value : F → Fraction) (p : Problem F) (n : ℕ) (v : Vertex) (basic : List Fraction) (theta : Fraction) (row : ℕ) where
   told : Bool → ℚ
   told b = if b then score value p v basic theta row else dual_of value p v basic theta row
 
-  data_score : row < n → score value p v basic theta row ≡ row_score value p n v basic theta row
-  unfolding told
-  data_score h = ap told (sym (lt-ltb row n h))
-
-  later_score : n ≤ row → dual_of value p v basic theta row ≡ row_score value p n v basic theta row
+  pub later_score : n ≤ row → dual_of value p v basic theta row ≡ row_score value p n v basic theta row
   unfolding told
   later_score h = ap told (sym (le-ltb row n h))
 
--- the same, where the row and its dual value were read from lists
-module _ {F : Type 0} (value : F → Fraction) (p : Problem F) (n : ℕ) (v : Vertex F) (basic : List F) (theta : F) (shape : IsVertexOf p v) (place : ℕ) (row : ℕ) (rows : List ℕ) (same : rows ≡ v.basis.rows)
-    (row_is : row ≡ slice_index rows place)
-    (within : place < length v.basis.rows) (inside : All (λ i. i < length p.rows) v.basis.rows) (size : length basic ≡ length v.basis.rows) (values : List F) (held : values ≡ basic) (x : F) (x_is : x ≡ get_or values place x) where
-  at_read : row ≡ slice_index v.basis.rows place
+-- the same, where the row, its weight and its dual value were read from lists
+module _ {F : Type 0} (value : F → Fraction) (p : Problem F) (s : Segment) (ok : IsScorable p s) (place row : ℕ) (within : place < length s.vertex.basis.rows) (rows : List ℕ) (same : rows ≡ s.vertex.basis.rows) (row_is : row ≡ slice_index rows place) where
+  at_read : row ≡ slice_index s.vertex.basis.rows place
   at_read = row_is ∙ ap (λ xs. slice_index xs place) same
 
   inside_read : row < length p.rows
-  inside_read = subst (λ i. i < length p.rows) (sym at_read) (inside place 0 within)
+  inside_read = subst (λ i. i < length p.rows) (sym at_read) (ok.inside place 0 within)
 
-  dual_read : rational (value x) ≡ value_at value basic place
-  dual_read = sym (value_at-item value basic place x (omega (arith, within, size)) (x_is ∙ ap (λ xs. get_or xs place x) held))
+  -- the dual value of the row is that of its place
+  pub dual_read : (basic : List Fraction) (theta : Fraction) → number_at basic place ≡ dual_of value p s.vertex basic theta row
+  dual_read basic theta = sym (dual_at_place value p s.vertex basic theta ok.vertex place row within at_read inside_read)
 
-  pub penalty_read : n ≤ row → rational (value x) ≡ row_score value p n v basic theta row
-  penalty_read later = dual_read ∙ sym (dual_at_place value p v basic theta shape place row within at_read inside_read) ∙ later_score value p n v basic theta row later
-
-  -- and its weight
-  module _ (small : row < n) (all : List (Row F)) (all_is : all ≡ p.rows) (r : Row F) (r_is : r ≡ get_or all row r) where
+  module _ (all : List (Row F)) (all_is : all ≡ p.rows) (r : Row F) (r_is : r ≡ get_or all row r) where
     weight_read : rational (value r.up1) ≡ (sample value p).up1 row
     weight_read = sym (row_read p.rows (λ r. rational (value r.up1)) row r inside_read (r_is ∙ ap (λ xs. get_or xs row r) all_is))
 
-    pub weight_not_zero : ((i : ℕ) → i < n → (sample value p).up1 i ≢ whole (pos 0)) → rational (value r.up1) ≢ whole (pos 0)
-    weight_not_zero weighted e = weighted row small (sym weight_read ∙ e)
-
-    pub read_is : ((rational (value x) *ℚ inverse (rational (value r.up1))) +ℚ whole (pos 1)) -ℚ rational (value theta) ≡ score value p v basic theta row
-    read_is = score_is value p v basic theta shape place row within at_read inside_read (rational (value x)) (rational (value r.up1)) dual_read weight_read
-
-    pub score_read : (q : F) → rational (value q) ≡ ((rational (value x) *ℚ inverse (rational (value r.up1))) +ℚ whole (pos 1)) -ℚ rational (value theta) → rational (value q) ≡ row_score value p n v basic theta row
-    score_read q is = is ∙ read_is ∙ data_score value p n v basic theta row small
-
-    pub spill_read : (range number end : ℕ) (s : Spill F) → IsScoreSpill value range (score_site row end number) (rational (value x)) (rational (value r.up1)) (rational (value theta)) s
-        → IsEndSpill value range p n number end v basic (rational (value theta)) s
-    spill_read range number end s =
-        end_spill value p v basic theta shape place row within at_read inside_read (rational (value x)) (rational (value r.up1)) dual_read weight_read range n number end s small
+    pub score_read : (basic : List Fraction) (theta : Fraction) (values : List Fraction) (x : Fraction) → length basic ≡ length s.vertex.basis.rows → values ≡ basic → x ≡ get_or values place x
+        → ((rational x *ℚ inverse (rational (value r.up1))) +ℚ whole (pos 1)) -ℚ rational theta ≡ score value p s.vertex basic theta row
+    score_read basic theta values x size held x_is =
+        score_is value p s.vertex basic theta ok.vertex place row within at_read inside_read (rational x) (rational (value r.up1))
+        (sym (value_at-item (λ x. x) basic place x (omega (arith, within, size)) (x_is ∙ ap (λ xs. get_or xs place x) held))) weight_read
 
 -- ---- all basic rows, one after another
 
-module _ {F : Type 0} (value : F → Fraction) (p : Problem F) (n : ℕ) (s : Segment F) where
-  abbrev low_end : ScorePair F → Type 0
-  low_end q = rational (value q.at_lo) ≡ row_score value p n s.vertex s.basic_lo s.lo q.row
+module _ {F : Type 0} (value : F → Fraction) (p : Problem F) (n : ℕ) (s : Segment) where
+  abbrev low_end : ScorePair → Type 0
+  low_end q = rational q.at_lo ≡ row_score value p n s.vertex s.basic_lo s.lo q.row
 
-  abbrev high_end : ScorePair F → Type 0
-  high_end q = rational (value q.at_hi) ≡ row_score value p n s.vertex s.basic_hi s.hi q.row
+  abbrev high_end : ScorePair → Type 0
+  high_end q = rational q.at_hi ≡ row_score value p n s.vertex s.basic_hi s.hi q.row
 
   -- the pairs are those of the first k basic rows
-  pub record AreScored (k : ℕ) (pairs : List (ScorePair F)) : Type 0 where
+  pub record AreScored (k : ℕ) (pairs : List ScorePair) : Type 0 where
     pub rows : map (λ q. q.row) pairs ≡ take k s.vertex.basis.rows
     pub at_lo : All low_end pairs
     pub at_hi : All high_end pairs
 
-  pub scored_more : (k : ℕ) (pairs next : List (ScorePair F)) (pair : ScorePair F) → k < length s.vertex.basis.rows → AreScored k pairs
+  pub scored_more : (k : ℕ) (pairs next : List ScorePair) (pair : ScorePair) → k < length s.vertex.basis.rows → AreScored k pairs
       → pair.row ≡ slice_index s.vertex.basis.rows k → low_end pair → high_end pair → next ≡ pairs ++ pair ∷ [] → AreScored (k + 1) next
   scored_more k pairs next pair within so_far row lo hi grown =
       subst (AreScored (k + 1)) (sym grown) (record {
-        rows = map-append (λ (q : ScorePair F). q.row) pairs (pair ∷ []) ∙ ap (λ xs. xs ++ pair.row ∷ []) so_far.rows
+        rows = map-append (λ (q : ScorePair). q.row) pairs (pair ∷ []) ∙ ap (λ xs. xs ++ pair.row ∷ []) so_far.rows
             ∙ ap (λ r. take k s.vertex.basis.rows ++ r ∷ []) row ∙ sym (take_more s.vertex.basis.rows k 0 within);
         at_lo = All-append low_end pairs (pair ∷ []) so_far.at_lo (All-cons low_end pair [] lo (All-nil low_end));
         at_hi = All-append high_end pairs (pair ∷ []) so_far.at_hi (All-cons high_end pair [] hi (All-nil high_end));

@@ -8,17 +8,17 @@ use Rattle.rational_laws.specs.Fraction.{Fraction, rational}
 use Rattle.rational_laws.proofs.Lists.{pushed_before, pushed_last}
 use Rattle.loss_model.specs.declared.problem.Problem.{Problem}
 use Rattle.loss_model.specs.declared.process.Segment.{Segment}
-use Rattle.loss_model.specs.Problem.{sample, value_at}
+use Rattle.loss_model.specs.Problem.{number_at, sample}
 use Rattle.loss_model.specs.Segment.{Covers, segments_of}
 use Rattle.rankscores.specs.Rows.{area_to}
 use Rattle.rankscores.specs.Wilcoxon.{half, AreWilcoxon, IsWilcoxon}
 use Rattle.rankscores.proofs.WilcoxonLaws.{is_sum, proper}
 
-module _ {F : Type 0} (value : F → Fraction) (p : Problem F) (segments : List (Segment F)) where
+module _ {F : Type 0} (value : F → Fraction) (p : Problem F) (segments : List Segment) where
   -- the scores of the first k rows
   pub record AreFirst (k : ℕ) (scores : List Fraction) : Type 0 where
     pub size : length scores ≡ k
-    pub each : (i : ℕ) → i < k → IsWilcoxon (sample value p) (segments_of value p segments) i (value_at (λ x. x) scores i)
+    pub each : (i : ℕ) → i < k → IsWilcoxon (sample value p) (segments_of value p segments) i (number_at scores i)
 
   pub first_none : AreFirst 0 []
   first_none = record { size = refl; each = λ i l. absurd (omega (arith, l)) }
@@ -35,17 +35,17 @@ module _ {F : Type 0} (value : F → Fraction) (p : Problem F) (segments : List 
       new : IsWilcoxon (sample value p) (segments_of value p segments) k (rational x)
       new = (is_sum (sample value p) (segments_of value p segments) k (rational x) (proper (length p.rows) (segments_of value p segments) covers)).1 is
 
-      by : (i : ℕ) (t : Bool) → nat_lt i k ≡ t → i < k + 1 → IsWilcoxon (sample value p) (segments_of value p segments) i (value_at (λ x. x) (scores ++ x ∷ []) i)
+      by : (i : ℕ) (t : Bool) → nat_lt i k ≡ t → i < k + 1 → IsWilcoxon (sample value p) (segments_of value p segments) i (number_at (scores ++ x ∷ []) i)
       by i true e l =
           let before : i < k = ltb-true i k e in
           subst (IsWilcoxon (sample value p) (segments_of value p segments) i) (ap (λ o. option_map_or (λ y. rational y) o (whole (pos 0))) (sym (pushed_before scores x i (omega (arith, before, so_far.size))))) (so_far.each i before)
       by i false e l =
           let same : length scores ≡ i = omega (arith, ltb-false i k e, l, so_far.size) in
           let row : k ≡ i = omega (arith, ltb-false i k e, l) in
-          subst (λ n. IsWilcoxon (sample value p) (segments_of value p segments) n (value_at (λ x. x) (scores ++ x ∷ []) n)) row
-          (subst (λ n. IsWilcoxon (sample value p) (segments_of value p segments) k (value_at (λ x. x) (scores ++ x ∷ []) n)) so_far.size
+          subst (λ n. IsWilcoxon (sample value p) (segments_of value p segments) n (number_at (scores ++ x ∷ []) n)) row
+          (subst (λ n. IsWilcoxon (sample value p) (segments_of value p segments) k (number_at (scores ++ x ∷ []) n)) so_far.size
           (subst (IsWilcoxon (sample value p) (segments_of value p segments) k) (ap (λ o. option_map_or (λ y. rational y) o (whole (pos 0))) (sym (pushed_last scores x))) new))
 
   pub first_all : (k : ℕ) (scores : List Fraction) → k ≡ length p.rows → AreFirst k scores → AreWilcoxon value p segments scores
   first_all k scores end all =
-      record { size = all.size ∙ end; each = subst (λ n. (i : ℕ) → i < n → IsWilcoxon (sample value p) (segments_of value p segments) i (value_at (λ x. x) scores i)) end all.each }
+      record { size = all.size ∙ end; each = subst (λ n. (i : ℕ) → i < n → IsWilcoxon (sample value p) (segments_of value p segments) i (number_at scores i)) end all.each }

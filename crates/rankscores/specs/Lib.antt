@@ -2,6 +2,5 @@ pub mod Integrals
 pub mod Laws
 pub mod Rows
 pub mod Scores
-pub mod Spills
 pub mod Trapezoids
 pub mod Wilcoxon

@@ -1,8 +1,7 @@
 -- Inner. The area below the rankscore of a row along segments of the program, the cross products that it is added up from, and
 -- what is needed of the row and of the segments for its integral.
-use Rattle.std.specs.Prelude.{◌≡◌, ◌≢◌, ℕ, ◌-◌, ◌<◌, List, Option, All, length, pos}
-use Rattle.std.specs.Option.{option_map_or}
-use Rattle.rational_laws.specs.Rational.{ℚ, ◌+ℚ◌, ◌-ℚ◌, ◌*ℚ◌, inverse, whole}
+use Rattle.std.specs.Prelude.{ℕ, ◌-◌, ◌<◌, Bool, true, false, List, All, length, pos}
+use Rattle.rational_laws.specs.Rational.{ℚ, ◌-ℚ◌, ◌*ℚ◌, whole}
 use Rattle.rational_laws.specs.RationalSums.{sum_ℚ}
 use Rattle.rational_laws.specs.Fraction.{Fraction, rational}
 use Rattle.loss_model.specs.declared.problem.Problem.{Problem}
@@ -11,7 +10,6 @@ use Rattle.loss_model.specs.Dual.{rankscore, IsDataRow}
 use Rattle.loss_model.specs.Problem.{sample}
 use Rattle.loss_model.specs.Sample.{Sample}
 use Rattle.loss_model.specs.Segment.{Covers, Segments, segments_of}
-use Rattle.rankscores.specs.declared.score.Stretch.{Stretch}
 use Rattle.rankscores.specs.Scores.{score, IsScorable}
 use Rattle.rankscores.specs.Trapezoids.{score_area}
 
@@ -26,51 +24,30 @@ score_cross p s i j =
 
 module _ {F : Type 0} (value : F → Fraction) (p : Problem F) where
   -- that of a segment of the program
-  abbrev pub segment_cross : Segment F → ℕ → ℚ
+  abbrev pub segment_cross : Segment → ℕ → ℚ
   segment_cross s i =
-      cross (rational (value s.lo)) (rational (value s.hi)) (score value p s.vertex s.basic_lo s.lo i) (score value p s.vertex s.basic_hi s.hi i)
+      cross (rational s.lo) (rational s.hi) (score value p s.vertex s.basic_lo s.lo i) (score value p s.vertex s.basic_hi s.hi i)
 
   -- those of the first n segments, added
-  abbrev pub cross_to : List (Segment F) → ℕ → ℕ → ℚ
+  abbrev pub cross_to : List Segment → ℕ → ℕ → ℚ
   cross_to segments i n = sum_ℚ n (score_cross (sample value p) (segments_of value p segments) i)
 
   -- the rankscore at the end of the last segment
-  abbrev pub last_score : List (Segment F) → ℕ → ℚ
+  abbrev pub last_score : List Segment → ℕ → ℚ
   last_score segments i =
       let s = segments_of value p segments in rankscore (sample value p) (s.hi (s.count - 1)) (s.at_hi (s.count - 1)) i
 
   -- the area below the rankscore of row i along the first n segments
-  abbrev pub area_to : List (Segment F) → ℕ → ℕ → ℚ
+  abbrev pub area_to : List Segment → ℕ → ℕ → ℚ
   area_to segments i n = sum_ℚ n (score_area (sample value p) (segments_of value p segments) i)
 
--- the length of a run of segments from its start, if there is one, to an end
-abbrev pub run_length : {F : Type 0} → (F → Fraction) → Option F → F → ℚ
-run_length value run end = option_map_or (λ s. rational (value end) -ℚ rational (value s)) run (whole (pos 0))
-
--- the cross product of a basic row, by its dual values and its weight
-abbrev pub stretch_cross : {F : Type 0} → (F → Fraction) → Stretch F → ℚ
-stretch_cross value e =
-    (((rational (value e.hi) *ℚ rational (value e.at_lo)) -ℚ (rational (value e.lo) *ℚ rational (value e.at_hi))) *ℚ inverse (rational (value e.weight)))
-    +ℚ (rational (value e.hi) -ℚ rational (value e.lo))
-
--- the same over the weight as a whole
-abbrev pub raised_cross : {F : Type 0} → (F → Fraction) → Stretch F → ℚ
-raised_cross value e =
-    ((rational (value e.hi) *ℚ (rational (value e.at_lo) +ℚ rational (value e.weight)))
-    -ℚ (rational (value e.lo) *ℚ (rational (value e.at_hi) +ℚ rational (value e.weight)))) *ℚ inverse (rational (value e.weight))
-
--- e is basic row i along a segment: its dual values over its weight make its scores at both ends
-pub record IsStretch {F : Type 0} (value : F → Fraction) (p : Problem F) (s : Segment F) (i : ℕ) (e : Stretch F) : Type 0 where
-  pub weighted : rational (value e.weight) ≢ whole (pos 0)
-  pub lo : e.lo ≡ s.lo
-  pub hi : e.hi ≡ s.hi
-  pub at_lo : ((rational (value e.at_lo) *ℚ inverse (rational (value e.weight))) +ℚ whole (pos 1)) -ℚ rational (value s.lo)
-      ≡ score value p s.vertex s.basic_lo s.lo i
-  pub at_hi : ((rational (value e.at_hi) *ℚ inverse (rational (value e.weight))) +ℚ whole (pos 1)) -ℚ rational (value s.hi)
-      ≡ score value p s.vertex s.basic_hi s.hi i
+-- an end at which a run of segments is open, and 0 where none is
+abbrev pub open_end : Bool → ℚ → ℚ
+open_end true x = x
+open_end false x = whole (pos 0)
 
 -- one of the rows, which are data rows, and segments that can be scored and cover 0 to 1
-pub record IsIntegrable {F : Type 0} (value : F → Fraction) (p : Problem F) (segments : List (Segment F)) (i : ℕ) : Type 0 where
+pub record IsIntegrable {F : Type 0} (value : F → Fraction) (p : Problem F) (segments : List Segment) (i : ℕ) : Type 0 where
   pub inside : i < length p.rows
   pub data_rows : (i : ℕ) → i < length p.rows → IsDataRow (sample value p) i
   pub scorable : All (IsScorable p) segments

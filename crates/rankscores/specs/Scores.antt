@@ -13,25 +13,25 @@ use Rattle.rankscores.specs.declared.pair.ScorePair.{ScorePair}
 
 module _ {F : Type 0} (value : F → Fraction) (p : Problem F) where
   -- the dual value of row i at theta, where the basic rows have these dual values
-  abbrev pub dual_of : Vertex F → List F → F → ℕ → ℚ
-  dual_of v basic theta = dual_value value p v basic (rational (value theta))
+  abbrev pub dual_of : Vertex → List Fraction → Fraction → ℕ → ℚ
+  dual_of v basic theta = dual_value value p v basic (rational theta)
 
   -- its rankscore
-  abbrev pub score : Vertex F → List F → F → ℕ → ℚ
-  score v basic theta = rankscore (sample value p) (rational (value theta)) (dual_of v basic theta)
+  abbrev pub score : Vertex → List Fraction → Fraction → ℕ → ℚ
+  score v basic theta = rankscore (sample value p) (rational theta) (dual_of v basic theta)
 
   -- the rankscore of one of the first n rows, which are data rows; the dual value of a later row
-  abbrev pub row_score : ℕ → Vertex F → List F → F → ℕ → ℚ
+  abbrev pub row_score : ℕ → Vertex → List Fraction → Fraction → ℕ → ℚ
   row_score n v basic theta i = if nat_lt i n then score v basic theta i else dual_of v basic theta i
 
   -- the scores of the basic rows, ascending, at both ends of the segment; the first n rows are data rows
-  pub record IsScored (n : ℕ) (s : Segment F) (pairs : List (ScorePair F)) : Type 0 where
+  pub record IsScored (n : ℕ) (s : Segment) (pairs : List ScorePair) : Type 0 where
     pub rows : map (λ q. q.row) pairs ≡ s.vertex.basis.rows
-    pub at_lo : All (λ q. rational (value q.at_lo) ≡ row_score n s.vertex s.basic_lo s.lo q.row) pairs
-    pub at_hi : All (λ q. rational (value q.at_hi) ≡ row_score n s.vertex s.basic_hi s.hi q.row) pairs
+    pub at_lo : All (λ q. rational q.at_lo ≡ row_score n s.vertex s.basic_lo s.lo q.row) pairs
+    pub at_hi : All (λ q. rational q.at_hi ≡ row_score n s.vertex s.basic_hi s.hi q.row) pairs
 
 -- what scores need of a segment: a vertex of the problem, with a dual value for each of its basic rows at both ends
-pub record IsScorable {F : Type 0} (p : Problem F) (s : Segment F) : Type 0 where
+pub record IsScorable {F : Type 0} (p : Problem F) (s : Segment) : Type 0 where
   pub vertex : IsVertexOf p s.vertex
   pub inside : All (λ i. i < length p.rows) s.vertex.basis.rows
   pub lo : length s.basic_lo ≡ length s.vertex.basis.rows

@@ -6,7 +6,7 @@ use Rattle.rational_laws.specs.Fraction.{Fraction}
 use Rattle.loss_model.specs.declared.problem.Problem.{Problem}
 use Rattle.loss_model.specs.declared.process.Segment.{Segment}
 use Rattle.loss_model.specs.Dual.{rankscore}
-use Rattle.loss_model.specs.Problem.{sample, value_at}
+use Rattle.loss_model.specs.Problem.{number_at, sample}
 use Rattle.loss_model.specs.Sample.{Sample}
 use Rattle.loss_model.specs.Segment.{Segments, segments_of}
 use Rattle.rankscores.specs.Integrals.{line, IsIntegral}
@@ -26,6 +26,6 @@ pub record IsWilcoxon (p : Sample) (s : Segments) (i : ℕ) (x : ℚ) : Type 0 w
   pub sum : x ≡ sum_ℚ s.count integrals -ℚ half
 
 -- one for each row of the problem, as fractions of any size
-pub record AreWilcoxon {F : Type 0} (value : F → Fraction) (p : Problem F) (segments : List (Segment F)) (scores : List Fraction) : Type 0 where
+pub record AreWilcoxon {F : Type 0} (value : F → Fraction) (p : Problem F) (segments : List Segment) (scores : List Fraction) : Type 0 where
   pub size : length scores ≡ length p.rows
-  pub each : (i : ℕ) → i < length p.rows → IsWilcoxon (sample value p) (segments_of value p segments) i (value_at (λ x. x) scores i)
+  pub each : (i : ℕ) → i < length p.rows → IsWilcoxon (sample value p) (segments_of value p segments) i (number_at scores i)

@@ -3,23 +3,24 @@
 //! The rankscore of a row goes from point to point in straight lines and has no jump, so twice the area
 //! below it is the sum of the cross products of neighbouring points, plus the rankscore at 1 (the
 //! surveyor's formula). A cross product has the denominators of two points once, where the area of a
-//! trapezoid has them twice, so most fit in fractions of limited size.
+//! trapezoid has them twice.
 //!
 //! Along a run of segments at which a row lies above the fit, its rankscore is 1, and the cross products
-//! add up to the run's length: one term, however many segments. Below the fit they are 0. So the terms
-//! of a row are those at which it is basic, and one for each run.
-ghost use Rattle.std.specs.Prelude.{◌≡◌, ℕ, ◌<◌, ◌≤◌, ◌++◌, ◌∷◌, [], All, Some, None, IfOk, IfSome, MatchOption, OnOk, length, slice_get, pos, negsuc};
+//! add up to the run's length: its end less its start, however many segments. Below the fit they are 0. So the terms
+//! of a row are those at which it is basic, and two for each run.
+ghost use Rattle.std.specs.Prelude.{◌≡◌, ℕ, ◌<◌, ◌≤◌, All, Contains, Some, IfOk, OnOk, length, slice_get, pos, negsuc};
 ghost use Rattle.rational_laws.specs.Fraction.{rational};
 ghost use Rattle.rational_laws.specs.Rational.{◌+ℚ◌, ◌-ℚ◌, whole};
 ghost use Rattle.loss_model.specs.Dual.{IsDataRow};
 ghost use Rattle.loss_model.specs.Problem.{sample};
 ghost use Rattle.loss_model.specs.Segment.{Covers, segments_of};
 ghost use Rattle.ratio.specs.Sums.{total};
-ghost use Rattle.rankscores.specs.Rows.{area_to, cross_to, last_score, run_length, segment_cross, IsIntegrable};
+ghost use Rattle.rankscores.specs.Rows.{area_to, cross_to, last_score, open_end, segment_cross, IsIntegrable};
 ghost use Rattle.rankscores.specs.Scores.{score, IsScorable};
 ghost use Rattle.rankscores.specs.Wilcoxon.{half as half_of, AreWilcoxon};
 
-use crate::score::{basic_cross, basic_score, gap};
+use crate::pair::basic_scores;
+use crate::score::cross_product;
 use crate::unreduced::half_sum;
 use frac_core::{Exact, List, OutOfMemory};
 use loss_model::laws::rankscores_outside;
@@ -35,7 +36,7 @@ use std::alloc::Global;
 pub fn wilcoxon<F: Exact>(
     alloc: Global,
     problem: &Problem<F>,
-    process: &Process<F>,
+    process: &Process,
 ) -> Result<List<Ratio>, OutOfMemory>
     requires rows { length problem.now.rows ≤ 16384 }
     requires data { (i : ℕ) → i < length problem.now.rows → IsDataRow (sample F.value problem.now) i }
@@ -53,7 +54,7 @@ pub fn wilcoxon<F: Exact>(
 }
 
 // The side of a row.
-fn side_of<F>(segment: &Segment<F>, row: u32) -> Side
+fn side_of(segment: &Segment, row: u32) -> Side
     requires { row < length segment.now.vertex.sides }
     ensures { slice_get segment.now.vertex.sides row ≡ Some result }
 {
@@ -68,65 +69,89 @@ fn put(terms: &mut List<Ratio>, term: Ratio) -> Result<(), OutOfMemory>
     Ok(())
 }
 
-// The start of the run that a segment belongs to.
-fn begun<F: Exact>(run: Option<F>, lo: F) -> Option<F>
-    ensures { MatchOption run (result ≡ Some lo) (λ s. result ≡ Some s) }
-{
-    match run {
-        Some(start) => Some(start),
-        None => Some(lo),
-    }
-}
-
-// Puts the length of a run that ends, if there is one.
-fn close<F: Exact>(
+// Puts where a run of segments begins, if none is open: its low end is taken off.
+fn begin(
     alloc: Global,
     terms: &mut List<Ratio>,
-    run: Option<F>,
-    end: F,
+    is_open: bool,
+    lo: &Ratio,
 ) -> Result<(), OutOfMemory>
-    ensures { OnOk result (total terms.new ≡ total terms.old +ℚ run_length F.value run end) }
+    ensures { OnOk result (total terms.new ≡ (total terms.old +ℚ open_end is_open (rational lo.now)) -ℚ rational lo.now) }
 {
-    match run {
-        None => Ok(()),
-        Some(start) => {
-            let length = gap(alloc, start, end)?;
-            put(terms, length)?;
-            Ok(())
-        }
+    if is_open {
+        return Ok(());
     }
+    let start = lo.copy(alloc)?;
+    put(terms, start.neg())?;
+    Ok(())
 }
 
-// Puts the cross product of a segment at which the row is basic, or adds the segment to the run; and
-// gives the run that is open.
-fn plus_cross<F: Exact>(
+// Puts where a run ends, if one is open.
+fn close(
+    alloc: Global,
+    terms: &mut List<Ratio>,
+    is_open: bool,
+    end: &Ratio,
+) -> Result<(), OutOfMemory>
+    ensures { OnOk result (total terms.new ≡ total terms.old +ℚ open_end is_open (rational end.now)) }
+{
+    if is_open {
+        let end = end.copy(alloc)?;
+        put(terms, end)?;
+        return Ok(());
+    }
+    Ok(())
+}
+
+// The cross product of a basic row along a segment.
+fn basic_cross<F: Exact>(
     alloc: Global,
     problem: &Problem<F>,
-    segment: &Segment<F>,
+    segment: &Segment,
     row: u32,
-    terms: &mut List<Ratio>,
-    run: Option<F>,
-    end: F,
-) -> Result<Option<F>, OutOfMemory>
+) -> Result<Ratio, OutOfMemory>
     requires scorable { IsScorable problem.now segment.now }
     requires inside { row < length problem.now.rows }
     requires data { (i : ℕ) → i < length problem.now.rows → IsDataRow (sample F.value problem.now) i }
-    requires joined { IfSome run (λ _. rational (F.value end) ≡ rational (F.value segment.now.lo)) }
-    ensures { IfOk result (λ next. total terms.new +ℚ run_length F.value next segment.now.hi
-        ≡ (total terms.old +ℚ run_length F.value run end) +ℚ segment_cross F.value problem.now segment.now row) }
+    requires there { Contains segment.now.vertex.basis.rows row }
+    ensures { IfOk result (λ r. rational r ≡ segment_cross F.value problem.now segment.now row) }
+{
+    let scores = basic_scores(alloc, problem, segment, row)?;
+    let cross = cross_product(alloc, segment, &scores.at_lo, &scores.at_hi);
+    drop(scores);
+    cross
+}
+
+// Puts what a segment adds at which the row is basic, or begins or ends a run; and tells whether one is open behind it.
+fn plus_cross<F: Exact>(
+    alloc: Global,
+    problem: &Problem<F>,
+    segment: &Segment,
+    row: u32,
+    terms: &mut List<Ratio>,
+    is_open: bool,
+) -> Result<bool, OutOfMemory>
+    requires scorable { IsScorable problem.now segment.now }
+    requires inside { row < length problem.now.rows }
+    requires data { (i : ℕ) → i < length problem.now.rows → IsDataRow (sample F.value problem.now) i }
+    ensures { IfOk result (λ next. total terms.new +ℚ open_end next (rational segment.now.hi)
+        ≡ (total terms.old +ℚ open_end is_open (rational segment.now.lo)) +ℚ segment_cross F.value problem.now segment.now row) }
 {
     rankscores_outside(problem, &segment.vertex);
     match side_of(segment, row) {
-        Side::Up => Ok(begun(run, segment.lo)),
+        Side::Up => {
+            begin(alloc, terms, is_open, &segment.lo)?;
+            Ok(true)
+        }
         Side::Down => {
-            close(alloc, terms, run, end)?;
-            Ok(None)
+            close(alloc, terms, is_open, &segment.lo)?;
+            Ok(false)
         }
         Side::Basic => {
-            close(alloc, terms, run, end)?;
+            close(alloc, terms, is_open, &segment.lo)?;
             let cross = basic_cross(alloc, problem, segment, row)?;
             put(terms, cross)?;
-            Ok(None)
+            Ok(false)
         }
     }
 }
@@ -135,20 +160,19 @@ fn plus_cross<F: Exact>(
 fn crosses<F: Exact>(
     alloc: Global,
     problem: &Problem<F>,
-    segments: &[Segment<F>],
+    segments: &[Segment],
     row: u32,
 ) -> Result<List<Ratio>, OutOfMemory>
     requires { IsIntegrable F.value problem.now segments.now row }
     ensures { IfOk result (λ r. total r ≡ cross_to F.value problem.now segments.now row (length segments.now)) }
 {
     let mut terms = List::new(alloc);
-    let mut run = None;
-    let mut end = F::zero();
+    let mut is_open = false;
     for (number, segment) in segments.iter().enumerate() {
-        run = plus_cross(alloc, problem, segment, row, &mut terms, run, end)?;
-        end = segment.hi;
+        is_open = plus_cross(alloc, problem, segment, row, &mut terms, is_open)?;
     }
-    close(alloc, &mut terms, run, end)?;
+    let last = &segments[segments.len() - 1];
+    close(alloc, &mut terms, is_open, &last.hi)?;
     Ok(terms)
 }
 
@@ -156,7 +180,7 @@ fn crosses<F: Exact>(
 fn high_score<F: Exact>(
     alloc: Global,
     problem: &Problem<F>,
-    segment: &Segment<F>,
+    segment: &Segment,
     row: u32,
 ) -> Result<Ratio, OutOfMemory>
     requires scorable { IsScorable problem.now segment.now }
@@ -175,8 +199,8 @@ fn high_score<F: Exact>(
             Ok(zero)
         }
         Side::Basic => {
-            let score = basic_score(alloc, problem, segment, row)?;
-            Ok(score)
+            let scores = basic_scores(alloc, problem, segment, row)?;
+            Ok(scores.at_hi)
         }
     }
 }
@@ -185,7 +209,7 @@ fn high_score<F: Exact>(
 fn put_end<F: Exact>(
     alloc: Global,
     problem: &Problem<F>,
-    segments: &[Segment<F>],
+    segments: &[Segment],
     row: u32,
     terms: &mut List<Ratio>,
 ) -> Result<(), OutOfMemory>
@@ -204,7 +228,7 @@ fn put_end<F: Exact>(
 fn wilcoxon_of<F: Exact>(
     alloc: Global,
     problem: &Problem<F>,
-    segments: &[Segment<F>],
+    segments: &[Segment],
     row: u32,
 ) -> Result<Ratio, OutOfMemory>
     requires { IsIntegrable F.value problem.now segments.now row }

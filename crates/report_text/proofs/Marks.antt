@@ -16,8 +16,8 @@ use Rattle.report_text.specs.ReportText.{score_mark}
 first_is : (x y : ℕ) → x ∷ [] ≡ y ∷ [] → x ≡ y
 first_is x y h = cc h
 
-module _ {F : Type 0} (value : F → Fraction) (p : Problem F) (s : Segment F) (scores : SidesAreScores value p s.vertex)
-    (theta : ℚ) (basic : List F) (i : ℕ) (row : IsDataRow (sample value p) i) where
+module _ {F : Type 0} (value : F → Fraction) (p : Problem F) (s : Segment) (scores : SidesAreScores value p s.vertex)
+    (theta : ℚ) (basic : List Fraction) (i : ℕ) (row : IsDataRow (sample value p) i) where
   abbrev score : ℚ
   score = rankscore (sample value p) theta (dual_value value p s.vertex basic theta) i
 
@@ -37,6 +37,6 @@ module _ {F : Type 0} (value : F → Fraction) (p : Problem F) (s : Segment F) (
   marked_none false Down at h = absurd (omega (arith, first_is 45 48 h))
   marked_none false Basic at h = absurd (omega (arith, first_is 42 48 h))
 
-pub marks : {F : Type 0} (value : F → Fraction) (p : Problem F) (n : ℕ) (s : Segment F) → SidesAreScores value p s.vertex → MarksAreScores value p n s
+pub marks : {F : Type 0} (value : F → Fraction) (p : Problem F) (n : ℕ) (s : Segment) → SidesAreScores value p s.vertex → MarksAreScores value p n s
 marks value p n s scores theta basic i side row at =
     (marked_one value p s scores theta basic i row (nat_lt i n) side at, marked_none value p s scores theta basic i row (nat_lt i n) side at)

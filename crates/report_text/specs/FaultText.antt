@@ -6,11 +6,13 @@ use Rattle.cert_text.specs.declared.fault.CertFault.{CertFault}
 use Rattle.cert_text.specs.declared.fault.CertFault.TheVariants as certs
 use Rattle.data_frame.specs.declared.fault.TableFault.{TableFault}
 use Rattle.data_frame.specs.declared.fault.TableFault.TheVariants as tables
+use Rattle.rational_laws.specs.Fraction.{Fraction}
 use Rattle.frac_core.specs.NumberText.{number_text_of}
 use Rattle.frac_core.specs.declared.frac128.Frac128.{Frac128}
 use Rattle.frac_core.specs.Values.{value}
 use Rattle.loss_model.specs.declared.spill.Site.{Site}
 use Rattle.loss_model.specs.declared.spill.Spill.{Spill}
+use Rattle.ratio.specs.Text.{ratio_text}
 use Rattle.formula_parser.specs.declared.fault.FormulaFault.{FormulaFault}
 use Rattle.formula_parser.specs.declared.fault.FormulaFault.TheVariants as formulas
 use Rattle.design_matrix.specs.declared.fault.DesignFault.{DesignFault}
@@ -27,7 +29,7 @@ use Rattle.report_text.specs.ReportText.{numbered}
 use Rattle.report_text.specs.declared.quantity.PrintedIndices.{PrintedIndices}
 use Rattle.report_text.specs.declared.quantity.PrintedIndices.TheVariants.{One, Two, Three}
 use Rattle.report_text.specs.declared.report.Place.{Place}
-use Rattle.report_text.specs.declared.report.Place.TheVariants.{Process, Interval, Check, Full, Predict, Path}
+use Rattle.report_text.specs.declared.report.Place.TheVariants.{Process, Interval, Full, Path}
 use Rattle.report_text.specs.declared.report.Refusal.{Refusal}
 use Rattle.report_text.specs.declared.report.Refusal.TheVariants.{TooLong, Table, Formula, RankWithPenalty, Design}
 use Rattle.report_text.specs.declared.report.Refusal.TheVariants.{Penalty, Program, Dependent, CertTooLong, Certificate}
@@ -76,15 +78,19 @@ abbrev pub text : List ℕ → List ℕ → List ℕ
 text name t = key name ++ name_bytes t
 
 -- a fraction
-abbrev pub fraction : List ℕ → Frac128 → List ℕ
-fraction name x = key name ++ number_text_of (value x)
+abbrev pub fraction : List ℕ → Fraction → List ℕ
+fraction name x = key name ++ ratio_text x
+
+-- an operand of an operation, which has 128 bits
+abbrev pub operand : List ℕ → Frac128 → List ℕ
+operand name x = key name ++ number_text_of (value x)
 
 -- an item of a list: a comma stands before all but the first
-abbrev pub listed : ℕ → Frac128 → List ℕ
-listed place x = (if place == 0 then [] else codes ",") ++ number_text_of (value x)
+abbrev pub listed : ℕ → Fraction → List ℕ
+listed place x = (if place == 0 then [] else codes ",") ++ ratio_text x
 
 -- fractions with commas between them
-abbrev pub fractions : List ℕ → List Frac128 → List ℕ
+abbrev pub fractions : List ℕ → List Fraction → List ℕ
 fractions name xs = key name ++ numbered listed 0 xs
 
 -- numbers with a comma between them
@@ -99,17 +105,15 @@ site_text site = word (codes "quantity") (quantity_name site.quantity) ++ (key (
 
 -- an operation that overflows, and both operands
 unfoldable pub spill_text : Spill Frac128 → List ℕ
-spill_text spill = site_text spill.site ++ word (codes "op") (op_name spill.site.kind) ++ fraction (codes "left") spill.left ++ fraction
+spill_text spill = site_text spill.site ++ word (codes "op") (op_name spill.site.kind) ++ operand (codes "left") spill.left ++ operand
     (codes "right") spill.right
 
--- the place where a job stopped: the fit, the interval of a column, counted from 1, at a quantile, the conditions of a
--- certificate, the start of a whole problem, the prediction of a record, or the costs of a path
+-- the place where a job stopped: the fit, the interval of a column, counted from 1, at a quantile, the start of a whole problem, or
+-- the costs of a path
 abbrev pub place_text : Place → List ℕ
 place_text Process = codes "process"
 place_text (Interval column tau) = codes "interval:" ++ decimal (column + 1) ++ codes ":" ++ number_text_of (value tau)
-place_text Check = codes "check"
 place_text Full = codes "full"
-place_text (Predict rec) = codes "predict:" ++ decimal rec
 place_text Path = codes "path"
 
 -- ---- faults

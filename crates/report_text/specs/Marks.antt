@@ -12,8 +12,8 @@ use Rattle.report_text.specs.ReportText.{row_mark}
 
 -- a data row that is marked 1 has the rankscore 1 at every quantile, and one that is marked 0 the rankscore 0, whatever the dual
 -- values of the basic rows are
-abbrev pub MarksAreScores : {F : Type 0} → (F → Fraction) → Problem F → ℕ → Segment F → Type 0
+abbrev pub MarksAreScores : {F : Type 0} → (F → Fraction) → Problem F → ℕ → Segment → Type 0
 MarksAreScores {F} value p n s =
-    (theta : ℚ) (basic : List F) (i : ℕ) (side : Side) → IsDataRow (sample value p) i → slice_get s.vertex.sides i ≡ Some side
+    (theta : ℚ) (basic : List Fraction) (i : ℕ) (side : Side) → IsDataRow (sample value p) i → slice_get s.vertex.sides i ≡ Some side
     → (row_mark n i side ≡ codes "1" → rankscore (sample value p) theta (dual_value value p s.vertex basic theta) i ≡ whole (pos 1))
     × (row_mark n i side ≡ codes "0" → rankscore (sample value p) theta (dual_value value p s.vertex basic theta) i ≡ whole (pos 0))

@@ -1,23 +1,18 @@
--- Stated. The printed text of a report: lines of words with one space between them. A type F of fractions
--- is seen by a function into pairs.
+-- Stated. The printed text of a report: lines of words with one space between them.
 use Rattle.std.specs.Prelude.{All, ◌≡◌, ◌≤◌, ℕ, ◌+◌, ◌-◌, ◌==◌, Bool, true, false, if◌then◌else◌, nat_lt}
 use Rattle.std.specs.Prelude.{List, [], ◌∷◌, ◌++◌, length, slice_get, Option, Some, codes, decimal, ⊤}
 use Rattle.std.specs.List.{flat_map, zip}
 use Rattle.rational_laws.specs.Fraction.{Fraction}
-use Rattle.frac_core.specs.NumberText.{number_text_of}
 use Rattle.loss_model.specs.declared.vertex.Side.{Side}
 use Rattle.loss_model.specs.declared.vertex.Side.TheVariants.{Up, Down, Basic}
 use Rattle.loss_model.specs.declared.process.Segment.{Segment}
 use Rattle.loss_model.specs.declared.interval.Bound.{Bound}
 use Rattle.loss_model.specs.declared.interval.Bound.TheVariants.{Finite, Infinite}
 use Rattle.loss_model.specs.declared.interval.Interval.{Interval}
-use Rattle.frac_core.specs.declared.frac128.Frac128.{Frac128}
-use Rattle.frac_core.specs.Values.{value}
 use Rattle.cert_text.specs.Trees.{cert_text}
 use Rattle.cert_text.specs.declared.cert.Cert.{Cert}
 use Rattle.rankscores.specs.declared.pair.ScorePair.{ScorePair}
 use Rattle.ratio.specs.Text.{ratio_text}
-use Rattle.predict_steps.specs.declared.step.RearrangedStep.{RearrangedStep}
 use Rattle.predict_steps.specs.declared.step.Step.{Step}
 use Rattle.report_text.specs.declared.report.Fit.{Fit}
 use Rattle.report_text.specs.declared.report.RanksFit.{RanksFit}
@@ -66,39 +61,37 @@ row_mark n i side = score_mark (nat_lt i n) side ∷ []
 unfoldable pub scores_line : ℕ → List Side → List ℕ
 scores_line n sides = codes "scores " ++ numbered (row_mark n) 0 sides ++ codes "\n"
 
-module _ {F : Type 0} (value : F → Fraction) where
-  -- the range of segment i
-  unfoldable pub segment_line : ℕ → Segment F → List ℕ
-  segment_line i s = codes "segment " ++ decimal i ++ codes " " ++ number_text_of (value s.lo) ++ codes " " ++ number_text_of (value s.hi) ++ codes "\n"
+-- the range of segment i
+unfoldable pub segment_line : ℕ → Segment → List ℕ
+segment_line i s = codes "segment " ++ decimal i ++ codes " " ++ ratio_text s.lo ++ codes " " ++ ratio_text s.hi ++ codes "\n"
 
-  -- the coefficient of column j
-  unfoldable pub coef_line : ℕ → F → List ℕ
-  coef_line j b = codes "coef " ++ decimal j ++ codes " " ++ number_text_of (value b) ++ codes "\n"
+-- the coefficient of column j
+unfoldable pub coef_line : ℕ → Fraction → List ℕ
+coef_line j b = codes "coef " ++ decimal j ++ codes " " ++ ratio_text b ++ codes "\n"
 
-  -- the loss at both ends
-  unfoldable pub loss_line : F → F → List ℕ
-  loss_line lo hi = codes "loss " ++ number_text_of (value lo) ++ codes " " ++ number_text_of (value hi) ++ codes "\n"
+-- the loss at both ends
+unfoldable pub loss_line : Fraction → Fraction → List ℕ
+loss_line lo hi = codes "loss " ++ ratio_text lo ++ codes " " ++ ratio_text hi ++ codes "\n"
 
-  -- the rankscores of a row of the basis at both ends, rows counted from 1
-  unfoldable pub basic_line : ScorePair F → List ℕ
-  basic_line p = codes "basic " ++ decimal (p.row + 1) ++ codes " " ++ number_text_of (value p.at_lo) ++ codes " " ++ number_text_of
-      (value p.at_hi) ++ codes "\n"
+-- the rankscores of a row of the basis at both ends, rows counted from 1
+unfoldable pub basic_line : ScorePair → List ℕ
+basic_line p = codes "basic " ++ decimal (p.row + 1) ++ codes " " ++ ratio_text p.at_lo ++ codes " " ++ ratio_text p.at_hi ++ codes "\n"
 
-  -- one segment: its range, its coefficients, its losses, its scores and its basic rows
-  unfoldable pub segment_text : ℕ → ℕ → Segment F × List (ScorePair F) → List ℕ
-  segment_text n i (s, pairs) =
-      segment_line i s ++ numbered coef_line 1 s.vertex.coef ++ loss_line s.loss_lo s.loss_hi ++ scores_line n s.vertex.sides ++ flat_map basic_line pairs
+-- one segment: its range, its coefficients, its losses, its scores and its basic rows
+unfoldable pub segment_text : ℕ → ℕ → Segment × List ScorePair → List ℕ
+segment_text n i (s, pairs) =
+    segment_line i s ++ numbered coef_line 1 s.vertex.coef ++ loss_line s.loss_lo s.loss_hi ++ scores_line n s.vertex.sides ++ flat_map basic_line pairs
 
-  -- an end of an interval, or this word where it is infinite
-  abbrev pub bound_text : List ℕ → Bound F → List ℕ
-  bound_text word (Finite x) = number_text_of (value x)
-  bound_text word Infinite = word
+-- an end of an interval, or this word where it is infinite
+abbrev pub bound_text : List ℕ → Bound Fraction → List ℕ
+bound_text word (Finite x) = ratio_text x
+bound_text word Infinite = word
 
-  -- a rank interval: its column, counted from 1, its quantile, its low end and its high end
-  unfoldable pub interval_line : Interval F → List ℕ
-  interval_line r =
-      codes "interval " ++ decimal (r.column + 1) ++ codes " " ++ number_text_of (value r.tau) ++ codes " "
-      ++ bound_text (codes "-Inf") r.low.bound ++ codes " " ++ bound_text (codes "Inf") r.high.bound ++ codes "\n"
+-- a rank interval: its column, counted from 1, its quantile, its low end and its high end
+unfoldable pub interval_line : Interval → List ℕ
+interval_line r =
+    codes "interval " ++ decimal (r.column + 1) ++ codes " " ++ ratio_text r.tau ++ codes " "
+    ++ bound_text (codes "-Inf") r.low.bound ++ codes " " ++ bound_text (codes "Inf") r.high.bound ++ codes "\n"
 
 -- how many rows and pivots the fit has
 unfoldable pub fit_size : Fit → List ℕ
@@ -111,8 +104,8 @@ fit_head fit = codes "quantreg 1\n" ++ records_line fit.kept fit.dropped ++ numb
 -- the report of a fit
 unfoldable pub fit_text : Fit → List ℕ
 fit_text fit =
-    fit_head fit ++ numbered (segment_text value fit.data_rows) 1 (zip fit.process.segments fit.scores)
-    ++ flat_map (interval_line value) fit.intervals ++ codes "end\n"
+    fit_head fit ++ numbered (segment_text fit.data_rows) 1 (zip fit.process.segments fit.scores)
+    ++ flat_map interval_line fit.intervals ++ codes "end\n"
 
 -- the Wilcoxon score of row i
 unfoldable pub wilcoxon_line : ℕ → Fraction → List ℕ
@@ -142,12 +135,12 @@ unfoldable pub checked_text : Cert → List ℕ
 checked_text cert = codes "quantreg check 1\n" ++ size_lines cert ++ codes "accepted\n" ++ codes "end\n"
 
 -- the loss of the first segment at its low end, and of the last one at its high end
-unfoldable pub outer_loss_line : Option (Segment Frac128) → Option (Segment Frac128) → List ℕ
-outer_loss_line (Some first) (Some last) = loss_line value first.loss_lo last.loss_hi
+unfoldable pub outer_loss_line : Option Segment → Option Segment → List ℕ
+outer_loss_line (Some first) (Some last) = loss_line first.loss_lo last.loss_hi
 outer_loss_line _ _ = []
 
 -- the losses at both ends of the range, where there is a segment
-abbrev pub range_loss_line : List (Segment Frac128) → List ℕ
+abbrev pub range_loss_line : List Segment → List ℕ
 range_loss_line segments = outer_loss_line (slice_get segments 0) (slice_get segments (length segments - 1))
 
 -- how large the fit of a generated table is
@@ -189,19 +182,14 @@ unfoldable pub test_text : TestFit → List ℕ
 test_text fit = test_head fit ++ flat_map score_line (zip fit.tested fit.scores) ++ statistic_line fit.statistic ++ codes "end\n"
 
 -- a step of a function of the quantile: from here, up to here, this value
-unfoldable pub step_line : Step Frac128 → List ℕ
-step_line s = codes "step " ++ number_text_of (value s.lo) ++ codes " " ++ number_text_of (value s.hi) ++ codes " " ++ number_text_of
-    (value s.value) ++ codes "\n"
-
--- the same of a rearrangement, whose steps have ends of any size
-unfoldable pub rearranged_line : RearrangedStep Frac128 → List ℕ
-rearranged_line s = codes "step " ++ ratio_text s.lo ++ codes " " ++ ratio_text s.hi ++ codes " " ++ number_text_of (value s.value) ++ codes "\n"
+unfoldable pub step_line : Step → List ℕ
+step_line s = codes "step " ++ ratio_text s.lo ++ codes " " ++ ratio_text s.hi ++ codes " " ++ ratio_text s.value ++ codes "\n"
 
 -- what is predicted of a record: its steps, and their rearrangement
 unfoldable pub prediction_text : Prediction → List ℕ
 prediction_text p =
     count_line (codes "predict") p.rec ++ flat_map step_line p.steps ++ count_line (codes "rearranged") p.rec
-    ++ flat_map rearranged_line p.rearranged
+    ++ flat_map step_line p.rearranged
 
 -- what stands before the predictions
 unfoldable pub predict_head : PredictFit → List ℕ
@@ -217,17 +205,17 @@ unfoldable pub sides_line : List Side → List ℕ
 sides_line sides = codes "sides " ++ numbered (row_mark 0) 0 sides ++ codes "\n"
 
 -- the dual values of a row of the basis at both ends, rows counted from 1
-unfoldable pub dual_line : (ℕ × Frac128) × Frac128 → List ℕ
-dual_line ((row, lo), hi) = codes "dual " ++ decimal (row + 1) ++ codes " " ++ number_text_of (value lo) ++ codes " " ++ number_text_of (value hi) ++ codes "\n"
+unfoldable pub dual_line : (ℕ × Fraction) × Fraction → List ℕ
+dual_line ((row, lo), hi) = codes "dual " ++ decimal (row + 1) ++ codes " " ++ ratio_text lo ++ codes " " ++ ratio_text hi ++ codes "\n"
 
 -- those of all rows of the basis
-abbrev pub duals_text : Segment Frac128 → List ℕ
+abbrev pub duals_text : Segment → List ℕ
 duals_text s = flat_map dual_line (zip (zip s.vertex.basis.rows s.basic_lo) s.basic_hi)
 
 -- one segment of a path: its range, its coefficients, its losses, its sides and its basic rows
-unfoldable pub path_segment_text : ℕ → Segment Frac128 → List ℕ
+unfoldable pub path_segment_text : ℕ → Segment → List ℕ
 path_segment_text i s =
-    segment_line value i s ++ numbered (coef_line value) 1 s.vertex.coef ++ loss_line value s.loss_lo s.loss_hi ++ sides_line s.vertex.sides ++ duals_text s
+    segment_line i s ++ numbered coef_line 1 s.vertex.coef ++ loss_line s.loss_lo s.loss_hi ++ sides_line s.vertex.sides ++ duals_text s
 
 -- how many rows and pivots a path has
 unfoldable pub path_size : PathFit → List ℕ
@@ -242,7 +230,7 @@ unfoldable pub path_text : PathFit → List ℕ
 path_text fit = path_head fit ++ numbered path_segment_text 1 fit.process.segments ++ codes "end\n"
 
 -- as many values of basic rows at either end as there are basic rows
-pub record IsPaired (s : Segment Frac128) : Type 0 where
+pub record IsPaired (s : Segment) : Type 0 where
   pub lo : length s.basic_lo ≡ length s.vertex.basis.rows
   pub hi : length s.basic_hi ≡ length s.vertex.basis.rows
 

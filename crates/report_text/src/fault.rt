@@ -218,8 +218,8 @@ impl Page {
                 Number(b"condition", rejection.condition as u32),
                 Number(b"index", rejection.index),
                 Number(b"inner", rejection.inner),
-                Fraction(b"left", rejection.left),
-                Fraction(b"right", rejection.right),
+                Fraction(b"left", &rejection.left),
+                Fraction(b"right", &rejection.right),
             ],
         )
     }

@@ -13,12 +13,18 @@
 //! ```text
 //! match report_bytes(alloc, &report) {
 //!     Ok(text) => Ok((report, text)),
-//!     Err(_) => Err(Halt::OutOfMemory),
+//!     Err(_) => {
+//!         drop(report);
+//!         Err(Halt::OutOfMemory)
+//!     }
 //! }
 //!
 //! match fault_line(alloc, &fault) {
 //!     Ok(line) => write_line(err, &line, Outcome::of(fault)),
-//!     Err(_) => ..
+//!     Err(_) => {
+//!         drop(fault);
+//!         write_line(err, MEMORY_LINE, Outcome::OutOfMemory)
+//!     }
 //! }
 //! ```
 #![tactic(auto)]

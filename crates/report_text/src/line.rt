@@ -1,7 +1,7 @@
 //! The one printer of fault lines, and the kinds of their fields.
 ghost use Rattle.std.specs.Prelude.{◌≡◌, ◌++◌, codes, decimal};
 ghost use Rattle.std.specs.List.{flat_map};
-ghost use Rattle.report_text.specs.FaultText.{fraction, fractions, indices_text, key, listed, number, place_text, site_text, spill_text, text, word};
+ghost use Rattle.report_text.specs.FaultText.{fraction, fractions, indices_text, key, listed, number, operand, place_text, site_text, spill_text, text, word};
 ghost use Rattle.report_text.specs.Fields.{shown};
 ghost use Rattle.report_text.specs.ReportText.{numbered};
 
@@ -10,6 +10,7 @@ use crate::quantity::{PrintedIndices, indices, op_name, quantity_name};
 use crate::report::Place;
 use frac_core::{Frac128, Text};
 use loss_model::{Site, Spill};
+use ratio::Ratio;
 
 /// A field of a line, by the kind of its value: a number or a length as it stands, a position, which is
 /// printed from 1, a text, a fraction or several, the place of a stop, or an operation that overflows.
@@ -19,8 +20,8 @@ pub(crate) enum Field<'a> {
     Length(&'static [u8], u64),
     Position(&'static [u8], u32),
     Name(&'static [u8], &'a Text),
-    Fraction(&'static [u8], Frac128),
-    Fractions(&'static [u8], &'a [Frac128]),
+    Fraction(&'static [u8], &'a Ratio),
+    Fractions(&'static [u8], &'a [Ratio]),
     Place(&'static [u8], Place),
     Spill(&'a Spill<Frac128>),
 }
@@ -54,7 +55,7 @@ impl Page {
             Field::Length(name, length) => self.put_counted(name, *length),
             Field::Position(name, place) => self.put_counted(name, *place as u64 + 1),
             Field::Name(name, text) => self.put_text(name, text),
-            Field::Fraction(name, number) => self.put_fraction(name, *number),
+            Field::Fraction(name, number) => self.put_fraction(name, number),
             Field::Fractions(name, list) => self.put_fractions(name, list),
             Field::Place(name, place) => self.put_place(name, *place),
             Field::Spill(spill) => self.put_spill(spill),
@@ -91,9 +92,7 @@ impl Page {
         match place {
             Place::Process => self.put(b"process"),
             Place::Interval { column, tau } => self.put_interval(column, tau),
-            Place::Check => self.put(b"check"),
             Place::Full => self.put(b"full"),
-            Place::Predict { rec } => self.put_predicted(rec),
             Place::Path => self.put(b"path"),
         }
     }
@@ -108,14 +107,6 @@ impl Page {
         self.put_number(tau);
     }
 
-    // The place of a prediction, whose record is printed as it is.
-    fn put_predicted(&mut self, rec: u32)
-        ensures { self.new ≡ self.old ++ place_text (Place.Predict rec) }
-    {
-        self.put(b"predict:");
-        self.put_count(rec as u64);
-    }
-
     fn put_text(&mut self, name: &[u8], told: &Text)
         ensures { self.new ≡ self.old ++ text name.now told.now }
     {
@@ -123,14 +114,22 @@ impl Page {
         self.put_name(told);
     }
 
-    fn put_fraction(&mut self, name: &[u8], told: Frac128)
-        ensures { self.new ≡ self.old ++ fraction name.now told }
+    fn put_fraction(&mut self, name: &[u8], told: &Ratio)
+        ensures { self.new ≡ self.old ++ fraction name.now told.now }
+    {
+        self.put_key(name);
+        self.put_ratio(told);
+    }
+
+    // An operand of an operation, which has 128 bits.
+    fn put_operand(&mut self, name: &[u8], told: Frac128)
+        ensures { self.new ≡ self.old ++ operand name.now told }
     {
         self.put_key(name);
         self.put_number(told);
     }
 
-    fn put_fractions(&mut self, name: &[u8], told: &[Frac128])
+    fn put_fractions(&mut self, name: &[u8], told: &[Ratio])
         ensures { self.new ≡ self.old ++ fractions name.now told.now }
     {
         self.put_key(name);
@@ -138,22 +137,22 @@ impl Page {
     }
 
     // Fractions with commas between them.
-    fn put_numbers(&mut self, numbers: &[Frac128])
+    fn put_numbers(&mut self, numbers: &[Ratio])
         ensures { self.new ≡ self.old ++ numbered listed 0 numbers.now }
     {
         for (place, number) in numbers.iter().enumerate() {
-            self.put_listed(place, *number);
+            self.put_listed(place, number);
         }
     }
 
     // An item of a list, with a comma before all but the first.
-    fn put_listed(&mut self, place: usize, number: Frac128)
-        ensures { self.new ≡ self.old ++ listed place number }
+    fn put_listed(&mut self, place: usize, number: &Ratio)
+        ensures { self.new ≡ self.old ++ listed place number.now }
     {
         if place > 0 {
             self.put(b",");
         }
-        self.put_number(number);
+        self.put_ratio(number);
     }
 
     // Numbers with a comma between them.
@@ -200,7 +199,7 @@ impl Page {
     {
         self.put_site(&spill.site);
         self.put_word(b"op", op_name(spill.site.kind));
-        self.put_fraction(b"left", spill.left);
-        self.put_fraction(b"right", spill.right);
+        self.put_operand(b"left", spill.left);
+        self.put_operand(b"right", spill.right);
     }
 }

@@ -6,9 +6,10 @@ ghost use Rattle.std.specs.List.{flat_map, zip};
 use crate::page::Page;
 use crate::report::{Fit, Report};
 use cert_text::write_cert;
-use frac_core::{Exact, List, OutOfMemory, Text};
+use frac_core::{List, OutOfMemory, Text};
 use loss_model::{Segment, Side};
 use rankscores::ScorePair;
+use ratio::Ratio;
 use std::alloc::Global;
 
 impl Page {
@@ -35,13 +36,13 @@ impl Page {
     }
 
     #[tactic(auto, unfolding(crate::specs::ReportText::segment_line))]
-    pub(crate) fn segment_line<F: Exact>(&mut self, number: u64, segment: &Segment<F>)
-        ensures { self.new ≡ self.old ++ segment_line F.value number segment.now }
+    pub(crate) fn segment_line(&mut self, number: u64, segment: &Segment)
+        ensures { self.new ≡ self.old ++ segment_line number segment.now }
     {
         self.put(b"segment ");
         self.put_count(number);
-        self.put_next(segment.lo);
-        self.put_next(segment.hi);
+        self.put_next(&segment.lo);
+        self.put_next(&segment.hi);
         self.put(b"\n");
     }
 
@@ -66,51 +67,51 @@ impl Page {
     }
 
     #[tactic(auto, unfolding(crate::specs::ReportText::coef_line))]
-    fn coef_line<F: Exact>(&mut self, number: u64, coef: F)
-        ensures { self.new ≡ self.old ++ coef_line F.value number coef }
+    fn coef_line(&mut self, number: u64, coef: &Ratio)
+        ensures { self.new ≡ self.old ++ coef_line number coef.now }
     {
         self.put(b"coef ");
         self.put_count(number);
         self.put(b" ");
-        self.put_number(coef);
+        self.put_ratio(coef);
         self.put(b"\n");
     }
 
     #[tactic(auto, unfolding(crate::specs::ReportText::loss_line))]
-    pub(crate) fn loss_line<F: Exact>(&mut self, lo: F, hi: F)
-        ensures { self.new ≡ self.old ++ loss_line F.value lo hi }
+    pub(crate) fn loss_line(&mut self, lo: &Ratio, hi: &Ratio)
+        ensures { self.new ≡ self.old ++ loss_line lo.now hi.now }
     {
         self.put(b"loss ");
-        self.put_number(lo);
+        self.put_ratio(lo);
         self.put(b" ");
-        self.put_number(hi);
+        self.put_ratio(hi);
         self.put(b"\n");
     }
 
     #[tactic(auto, unfolding(crate::specs::ReportText::basic_line))]
-    fn basic_line<F: Exact>(&mut self, pair: &ScorePair<F>)
-        ensures { self.new ≡ self.old ++ basic_line F.value pair.now }
+    fn basic_line(&mut self, pair: &ScorePair)
+        ensures { self.new ≡ self.old ++ basic_line pair.now }
     {
         self.put(b"basic ");
         self.put_count(pair.row as u64 + 1);
-        self.put_next(pair.at_lo);
-        self.put_next(pair.at_hi);
+        self.put_next(&pair.at_lo);
+        self.put_next(&pair.at_hi);
         self.put(b"\n");
     }
 
-    fn basic_lines<F: Exact>(&mut self, pairs: &[ScorePair<F>])
-        ensures { self.new ≡ self.old ++ flat_map (basic_line F.value) pairs.now }
+    fn basic_lines(&mut self, pairs: &[ScorePair])
+        ensures { self.new ≡ self.old ++ flat_map basic_line pairs.now }
     {
         for pair in pairs {
             self.basic_line(pair);
         }
     }
 
-    pub(crate) fn coef_lines<F: Exact>(&mut self, coef: &[F])
-        ensures { self.new ≡ self.old ++ numbered (coef_line F.value) 1 coef.now }
+    pub(crate) fn coef_lines(&mut self, coef: &[Ratio])
+        ensures { self.new ≡ self.old ++ numbered coef_line 1 coef.now }
     {
         for (index, value) in coef.iter().enumerate() {
-            self.coef_line(index as u64 + 1, *value);
+            self.coef_line(index as u64 + 1, value);
         }
     }
 
@@ -132,31 +133,25 @@ impl Page {
     }
 
     #[tactic(auto, unfolding(crate::specs::ReportText::segment_text))]
-    fn segment<F: Exact>(
-        &mut self,
-        data_rows: u32,
-        number: u64,
-        segment: &Segment<F>,
-        pairs: &[ScorePair<F>],
-    )
-        ensures { self.new ≡ self.old ++ segment_text F.value data_rows number (segment.now, pairs.now) }
+    fn segment(&mut self, data_rows: u32, number: u64, segment: &Segment, pairs: &[ScorePair])
+        ensures { self.new ≡ self.old ++ segment_text data_rows number (segment.now, pairs.now) }
     {
         self.segment_line(number, segment);
         self.coef_lines(segment.vertex.coef.as_slice());
-        self.loss_line(segment.loss_lo, segment.loss_hi);
+        self.loss_line(&segment.loss_lo, &segment.loss_hi);
         self.scores_line(data_rows, segment.vertex.sides.as_slice());
         self.basic_lines(pairs);
     }
 
     /// Adds the segments, each with the scores of its basic rows.
-    pub(crate) fn segments<F: Exact>(
+    pub(crate) fn segments(
         &mut self,
         data_rows: u32,
-        segments: &[Segment<F>],
-        scores: &[List<ScorePair<F>>],
+        segments: &[Segment],
+        scores: &[List<ScorePair>],
     )
         requires { length scores.now ≡ length segments.now }
-        ensures { self.new ≡ self.old ++ numbered (segment_text F.value data_rows) 1 (zip segments.now scores.now) }
+        ensures { self.new ≡ self.old ++ numbered (segment_text data_rows) 1 (zip segments.now scores.now) }
     {
         for (index, segment) in segments.iter().enumerate() {
             self.segment(

@@ -1,13 +1,14 @@
 //! A text under construction: what is put into it, and at the end its bytes or want of memory.
 ghost use Rattle.std.specs.Prelude.{◌≡◌, ◌++◌, ◌<◌, [], ◌∷◌, IfOk, decimal};
 ghost use Rattle.frac_core.specs.NumberText.{number_text_of};
+ghost use Rattle.frac_core.specs.Values.{value};
 ghost use Rattle.ratio.specs.Text.{ratio_text};
 ghost use Rattle.report_text.specs.Names.{name_bytes, name_byte, hexadecimal};
 ghost use Rattle.report_text.specs.ReportText.{numbered, row_mark};
 
 use crate::ghost_text::{GhostText, Said};
 use crate::sides::marks_of;
-use frac_core::{Exact, OutOfMemory, Text};
+use frac_core::{Exact, Frac128, OutOfMemory, Text};
 use itoa::Buffer;
 use loss_model::Side;
 use ratio::Ratio;
@@ -97,25 +98,25 @@ impl Page {
         self.put(Buffer::new().format(count).as_bytes());
     }
 
-    /// Adds a fraction: its numerator, and after a slash its denominator where that is not 1.
+    /// Adds a fraction of 128 bits: its numerator, and after a slash its denominator where that is not 1.
     #[tactic(auto, unfolding(frac_core::specs::NumberText::number_text_of))]
-    pub(crate) fn put_number<F: Exact>(&mut self, value: F)
-        ensures { self.new ≡ self.old ++ number_text_of (F.value value) }
+    pub(crate) fn put_number(&mut self, number: Frac128)
+        ensures { self.new ≡ self.old ++ number_text_of (value number) }
     {
-        self.put(Buffer::new().format(value.numerator()).as_bytes());
-        if value.denominator() == 1 {
+        self.put(Buffer::new().format(number.numerator()).as_bytes());
+        if number.denominator() == 1 {
             return;
         }
         self.put(b"/");
-        self.put(Buffer::new().format(value.denominator()).as_bytes());
+        self.put(Buffer::new().format(number.denominator()).as_bytes());
     }
 
-    /// Adds a space and a fraction.
-    pub(crate) fn put_next<F: Exact>(&mut self, value: F)
-        ensures { self.new ≡ self.old ++ 32 ∷ number_text_of (F.value value) }
+    /// Adds a space and a fraction of any size.
+    pub(crate) fn put_next(&mut self, value: &Ratio)
+        ensures { self.new ≡ self.old ++ 32 ∷ ratio_text value.now }
     {
         self.put(b" ");
-        self.put_number(value);
+        self.put_ratio(value);
     }
 
     /// Adds a name, in which a control byte or a backslash is written as `\x` and two digits.

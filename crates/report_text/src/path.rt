@@ -4,8 +4,8 @@ ghost use Rattle.report_text.specs.ReportText.{IsPaired, dual_line, duals_text, 
 
 use crate::page::Page;
 use crate::report::PathFit;
-use frac_core::Frac128;
 use loss_model::{Segment, Side};
+use ratio::Ratio;
 
 impl Page {
     #[tactic(auto, unfolding(crate::specs::ReportText::sides_line))]
@@ -18,8 +18,8 @@ impl Page {
     }
 
     #[tactic(auto, unfolding(crate::specs::ReportText::dual_line))]
-    fn dual_line(&mut self, row: u32, lo: Frac128, hi: Frac128)
-        ensures { self.new ≡ self.old ++ dual_line ((row, lo), hi) }
+    fn dual_line(&mut self, row: u32, lo: &Ratio, hi: &Ratio)
+        ensures { self.new ≡ self.old ++ dual_line ((row, lo.now), hi.now) }
     {
         self.put(b"dual ");
         self.put_count(row as u64 + 1);
@@ -29,30 +29,30 @@ impl Page {
     }
 
     // The dual values of the rows of the basis, at both ends.
-    fn dual_lines(&mut self, segment: &Segment<Frac128>)
+    fn dual_lines(&mut self, segment: &Segment)
         requires { IsPaired segment.now }
         ensures { self.new ≡ self.old ++ duals_text segment.now }
     {
         let at_lo = segment.basic_lo.as_slice();
         let at_hi = segment.basic_hi.as_slice();
         for (k, row) in segment.vertex.basis.rows.as_slice().iter().enumerate() {
-            self.dual_line(*row, at_lo[k], at_hi[k]);
+            self.dual_line(*row, &at_lo[k], &at_hi[k]);
         }
     }
 
     #[tactic(auto, unfolding(crate::specs::ReportText::path_segment_text))]
-    fn path_segment(&mut self, number: u64, segment: &Segment<Frac128>)
+    fn path_segment(&mut self, number: u64, segment: &Segment)
         requires { IsPaired segment.now }
         ensures { self.new ≡ self.old ++ path_segment_text number segment.now }
     {
         self.segment_line(number, segment);
         self.coef_lines(segment.vertex.coef.as_slice());
-        self.loss_line(segment.loss_lo, segment.loss_hi);
+        self.loss_line(&segment.loss_lo, &segment.loss_hi);
         self.sides_line(segment.vertex.sides.as_slice());
         self.dual_lines(segment);
     }
 
-    fn path_segments(&mut self, segments: &[Segment<Frac128>])
+    fn path_segments(&mut self, segments: &[Segment])
         requires { All IsPaired segments.now }
         ensures { self.new ≡ self.old ++ numbered path_segment_text 1 segments.now }
     {

@@ -1,50 +1,29 @@
 //! The lines of a report of predictions.
 ghost use Rattle.std.specs.Prelude.{◌≡◌, ◌++◌};
 ghost use Rattle.std.specs.List.{flat_map};
-ghost use Rattle.report_text.specs.ReportText.{predict_head, predict_text, prediction_text, rearranged_line, step_line};
+ghost use Rattle.report_text.specs.ReportText.{predict_head, predict_text, prediction_text, step_line};
 
 use crate::page::Page;
 use crate::report::{PredictFit, Prediction};
-use frac_core::Frac128;
-use predict_steps::{RearrangedStep, Step};
+use predict_steps::Step;
 
 impl Page {
     #[tactic(auto, unfolding(crate::specs::ReportText::step_line))]
-    fn step_line(&mut self, step: &Step<Frac128>)
+    fn step_line(&mut self, step: &Step)
         ensures { self.new ≡ self.old ++ step_line step.now }
     {
         self.put(b"step ");
-        self.put_number(step.lo);
-        self.put_next(step.hi);
-        self.put_next(step.value);
+        self.put_ratio(&step.lo);
+        self.put_next(&step.hi);
+        self.put_next(&step.value);
         self.put(b"\n");
     }
 
-    fn step_lines(&mut self, steps: &[Step<Frac128>])
+    fn step_lines(&mut self, steps: &[Step])
         ensures { self.new ≡ self.old ++ flat_map step_line steps.now }
     {
         for step in steps {
             self.step_line(step);
-        }
-    }
-
-    #[tactic(auto, unfolding(crate::specs::ReportText::rearranged_line))]
-    fn rearranged_line(&mut self, step: &RearrangedStep<Frac128>)
-        ensures { self.new ≡ self.old ++ rearranged_line step.now }
-    {
-        self.put(b"step ");
-        self.put_ratio(&step.lo);
-        self.put(b" ");
-        self.put_ratio(&step.hi);
-        self.put_next(step.value);
-        self.put(b"\n");
-    }
-
-    fn rearranged_lines(&mut self, steps: &[RearrangedStep<Frac128>])
-        ensures { self.new ≡ self.old ++ flat_map rearranged_line steps.now }
-    {
-        for step in steps {
-            self.rearranged_line(step);
         }
     }
 
@@ -56,7 +35,7 @@ impl Page {
         self.count_line(b"predict", prediction.rec as u64);
         self.step_lines(prediction.steps.as_slice());
         self.count_line(b"rearranged", prediction.rec as u64);
-        self.rearranged_lines(prediction.rearranged.as_slice());
+        self.step_lines(prediction.rearranged.as_slice());
     }
 
     fn prediction_lines(&mut self, predictions: &[Prediction])

@@ -6,7 +6,7 @@ use design_matrix::DesignFault;
 use formula_parser::FormulaFault;
 use frac_core::{Frac128, List, Text};
 use loss_model::{Interval, Problem, Process, Spill, Trail};
-use predict_steps::{RearrangedStep, Step};
+use predict_steps::Step;
 use rankscores::ScorePair;
 use ratio::Ratio;
 use rq_program::ProgramFault;
@@ -23,9 +23,9 @@ pub struct Fit {
     pub names: List<Text>,
     pub data_rows: u32,
     pub problem: Problem<Frac128>,
-    pub process: Process<Frac128>,
-    pub scores: List<List<ScorePair<Frac128>>>,
-    pub intervals: List<Interval<Frac128>>,
+    pub process: Process,
+    pub scores: List<List<ScorePair>>,
+    pub intervals: List<Interval>,
 }
 
 /// A fitted model over 0 to 1, and the Wilcoxon score of each of its rows.
@@ -43,7 +43,7 @@ pub struct TestFit {
     pub dropped: u32,
     pub names: List<Text>,
     pub tested: List<u32>,
-    pub process: Process<Frac128>,
+    pub process: Process,
     pub scores: List<Ratio>,
     pub statistic: Ratio,
 }
@@ -55,7 +55,7 @@ pub struct PredictFit {
     pub kept: u32,
     pub dropped: u32,
     pub names: List<Text>,
-    pub process: Process<Frac128>,
+    pub process: Process,
     pub predictions: List<Prediction>,
 }
 
@@ -68,7 +68,7 @@ pub struct PathFit {
     pub names: List<Text>,
     pub data_rows: u32,
     pub problem: Problem<Frac128>,
-    pub process: Process<Frac128>,
+    pub process: Process,
 }
 
 /// What is predicted of a record, counted from 1: a step along each segment of the process, and the
@@ -76,8 +76,8 @@ pub struct PathFit {
 #[derive(Drop)]
 pub struct Prediction {
     pub rec: u32,
-    pub steps: List<Step<Frac128>>,
-    pub rearranged: List<RearrangedStep<Frac128>>,
+    pub steps: List<Step>,
+    pub rearranged: List<Step>,
 }
 
 /// What a job found.
@@ -117,7 +117,7 @@ pub enum Refusal {
     /// The design has no problem.
     Program(ProgramFault),
     /// The columns are dependent: this combination of them, which isn't all 0, is 0 in every row.
-    Dependent { combination: List<Frac128> },
+    Dependent { combination: List<Ratio> },
     /// The text of the certificate has so many bytes, which is more than 2^26, or its rows times its segments
     /// exceed 2^30.
     CertTooLong { length: u64 },
@@ -135,19 +135,15 @@ pub enum Refusal {
     TooManyPredictions { found: u32 },
 }
 
-/// Where the solver or the checker stopped.
+/// Where the solver stopped.
 #[derive(Clone, Copy, Debug, PartialEq, Eq)]
 pub enum Place {
     /// In the fit itself.
     Process,
     /// In the rank interval of a column, counted from 0, at a quantile.
     Interval { column: u32, tau: Frac128 },
-    /// In the conditions of a certificate.
-    Check,
     /// In the start of a whole problem, before the process without its tested columns.
     Full,
-    /// In the prediction of a record, counted from 1.
-    Predict { rec: u32 },
     /// In the costs of a path problem.
     Path,
 }
@@ -161,13 +157,12 @@ pub enum Halt {
     PivotLimit {
         place: Place,
         limit: u32,
-        trail: Trail<Frac128>,
+        trail: Trail,
     },
-    /// An operation overflows at the last basis of the trail, or after the solve, when the trail is
-    /// whole; or in a condition of a certificate, where the trail is empty.
+    /// An operation overflows at the last basis of the trail.
     Overflow {
         place: Place,
-        trail: Trail<Frac128>,
+        trail: Trail,
         spill: Spill<Frac128>,
     },
     /// A condition of the certificate is false: the first test that is, with its two sides.

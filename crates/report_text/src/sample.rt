@@ -4,17 +4,16 @@ ghost use Rattle.report_text.specs.ReportText.{range_loss_line, sample_head, sam
 
 use crate::page::Page;
 use crate::report::Fit;
-use frac_core::Frac128;
 use loss_model::Segment;
 
 impl Page {
     // The losses at both ends of the range of these segments.
     #[tactic(auto, unfolding(crate::specs::ReportText::outer_loss_line))]
-    fn range_loss_line(&mut self, segments: &[Segment<Frac128>])
+    fn range_loss_line(&mut self, segments: &[Segment])
         ensures { self.new ≡ self.old ++ range_loss_line segments.now }
     {
         match (segments.first(), segments.last()) {
-            (Some(first), Some(last)) => self.loss_line(first.loss_lo, last.loss_hi),
+            (Some(first), Some(last)) => self.loss_line(&first.loss_lo, &last.loss_hi),
             _ => {}
         }
     }

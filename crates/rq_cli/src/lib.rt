@@ -6,8 +6,8 @@
 //! faults (`specs/Outcomes.antt`). It stands on `rq_engine` for reports and on `port_io` for streams.
 //! Its cases stand in `cases`, and its tests in `edge_tests`.
 //!
-//! `program` and `status` hand a run on to `main` as its exit status. `quantreg` calls them so, and a caller that has the
-//! words and the streams itself calls `run`:
+//! `program` and `status` hand a run on to `main` as its exit status. A caller that has the words and the streams itself calls
+//! `run`; `quantreg` calls `program` so:
 //! ```text
 //! let Some(words) = arguments(&rt) else {
 //!     return ExitCode::from(Outcome::OutOfMemory.code());
@@ -15,9 +15,7 @@
 //! let mut input = StdSource::new(rt.stdin());
 //! let mut output = StdSink::new(rt.stdout());
 //! let mut errors = StdSink::new(rt.stderr());
-//! let status = program(&rt, rt.alloc(), &words, &mut input, &mut output, &mut errors);
-//!
-//! let outcome = run(rt, alloc, words, source, out, err, gate);
+//! ExitCode::from(program(&rt, rt.alloc(), &words, &mut input, &mut output, &mut errors))
 //! ```
 #![tactic(auto)]
 

@@ -29,12 +29,12 @@ pub enum Outcome {
     PivotLimit {
         place: Place,
         limit: u32,
-        trail: Trail<Frac128>,
+        trail: Trail,
     },
-    /// An operation of the solver, or of a condition of a certificate, overflows.
+    /// An operation of the solver, or of the costs of a path, overflows.
     Overflow {
         place: Place,
-        trail: Trail<Frac128>,
+        trail: Trail,
         spill: Spill<Frac128>,
     },
     /// The certificate is rejected: the first of its tests that is false, with its two sides.

@@ -28,13 +28,13 @@ use std::thread::Threads;
 ///   the formula over its names, of their design, of what its smooths add, or of the problem; for `test` also of its
 ///   tested columns; for `predict` also where there is nothing to predict or too much, or of a predicted record's row; for
 ///   `check` of the bytes as a certificate; as `CertTooLong` where the text of a certificate to be written is longer than
-///   2^26 bytes, or its rows times its segments exceed 2^30; and as `Dependent` only where the columns of the problem are
-///   dependent.
+///   2^26 bytes, its rows times its segments exceed 2^30, or a number of it has more than 65,536 digits; and as `Dependent`
+///   only where the columns of the problem are dependent.
 /// - `Rejected` comes exactly where a condition of a certificate is false: it is the first, all tests before it being true.
 /// - `PivotLimit` comes only where the lawful trail of its place, of the problem or of a rank interval, has as many pivots
 ///   as the words' limit says and one more is left, and `Overflow` only where an operation of its place overflows: of the
-///   fit, of a rank interval, of a rank test, of the costs of a path, of a prediction or of the checker. A stop of an
-///   interval is that of the first one that stops.
+///   fit, of a rank interval, of the start of a rank test's whole problem, or of the costs of a path. A stop of an interval
+///   is that of the first one that stops.
 /// - `SourceFault` comes only where the words ask for a job that reads the source and its count of faults rose in this
 ///   call; where it grew there is no other outcome, unless the line of `SourceFault` couldn't be told.
 /// - `SinkFault` comes only where the count of `out` or of `err` rose; where one grew there is no other outcome.

@@ -4,7 +4,6 @@ use Rattle.std.specs.List.{AllZip}
 use Rattle.std.proofs.lemmas.List.Elements.{All-cons, All-nil}
 use Rattle.rational_laws.specs.Fraction.{Fraction, rational}
 use Rattle.rational_laws.specs.Rational.{ℚ}
-use Rattle.frac_core.specs.declared.frac128.Frac128.{Frac128}
 use Rattle.frac_core.specs.Values.{value}
 use Rattle.loss_model.specs.declared.interval.Bound.{Bound}
 use Rattle.loss_model.specs.declared.interval.Bound.TheVariants.{Finite, Infinite}
@@ -51,21 +50,21 @@ fit_listed job fit right =
 
 module _ {F : Type 0} (value : F → Fraction) (p : Problem F) where
   -- the basic rows of a vertex at a basis are rows of the problem
-  rows_inside : (basis : List ℕ) (Q : (ℕ → ℕ → ℚ) → Type 0) (at : AtBasis (sample value p) basis Q) (v : Vertex F) → IsVertexAt value p basis at.a v → All (λ i. i < length p.rows) v.basis.rows
+  rows_inside : (basis : List ℕ) (Q : (ℕ → ℕ → ℚ) → Type 0) (at : AtBasis (sample value p) basis Q) (v : Vertex) → IsVertexAt value p basis at.a v → All (λ i. i < length p.rows) v.basis.rows
   rows_inside basis Q at v vertex k d l =
       let i = get_or v.basis.rows k d in
       let there : Contains basis i = (vertex.rows i).0 (k, l, any_default v.basis.rows k i d l) in
       subst (λ n. n < length p.rows) (any_default basis there.0 0 i there.1 ∙ there.2) (at.is_basis.distinct.within there.0 (omega (arith, there.1, at.size)))
 
   -- an end that a walk hands out is finite where dual values lie beyond it
-  same_kind : (way : Way) (j : ℕ) (tau bound : ℚ) (at : ℕ → ℕ) (a : ℕ → ℕ → ℚ) (t u : ℚ) (k : ℕ) (d : Direction) (v : Vertex F) (inside : List F) (b : Bound F) (e : Beyond F)
+  same_kind : (way : Way) (j : ℕ) (tau bound : ℚ) (at : ℕ → ℕ) (a : ℕ → ℕ → ℚ) (t u : ℚ) (k : ℕ) (d : Direction) (v : Vertex) (inside : List Fraction) (b : Bound Fraction) (e : Beyond)
       → IsHandedOut value p way j tau bound at a t u k d v inside b e → is_finite b ≡ is_outside e
   same_kind way j tau bound at a t u k d v inside (Finite x) (Outside f) h = refl
   same_kind way j tau bound at a t u k d v inside Infinite (Ray r) h = refl
   same_kind way j tau bound at a t u k d v inside (Finite x) (Ray r) h = absurd h
   same_kind way j tau bound at a t u k d v inside Infinite (Outside f) h = absurd h
 
-  kept_end : (way : Way) (j : ℕ) (tau bound : ℚ) (basis : List ℕ) (t : ℚ) (end : End F)
+  kept_end : (way : Way) (j : ℕ) (tau bound : ℚ) (basis : List ℕ) (t : ℚ) (end : End)
       → AtBasis (sample value p) basis (λ a. IsEndAt value p way j tau bound basis a t end) → IsKeptEnd end
   kept_end way j tau bound basis t end at =
       let h = at.holds in (
@@ -73,22 +72,22 @@ module _ {F : Type 0} (value : F → Fraction) (p : Problem F) where
         same_kind way j tau bound (slice_index basis) at.a t h.u h.k h.d end.vertex end.inside end.bound end.beyond h.handed,
       )
 
-  kept_interval : (interval : Interval F) → p.columns ≤ 128 → interval.column < p.columns → IsIntervalOf value p interval → (factors : List F) → IsKeptInterval (stated interval factors)
+  kept_interval : (interval : Interval) → p.columns ≤ 128 → interval.column < p.columns → IsIntervalOf value p interval → (factors : List Fraction) → IsKeptInterval (stated interval factors)
   kept_interval interval few column h factors =
-      let tau = rational (value interval.tau) in
+      let tau = rational interval.tau in
       let bound = bound_by value p interval h.factors in (
         omega (arith, few, column),
         (kept_end fall interval.column tau bound _ _ interval.low h.right.low, kept_end rise interval.column tau bound _ _ interval.high h.right.high),
       )
 
   -- so do the bases of right intervals
-  intervals_kept : (limit : ℕ) → p.columns ≤ 128 → (asked : List (Asked F)) (intervals : List (Interval F)) → AreRightIntervals value p limit asked intervals
-      → All (λ (interval : Interval F). (factors : List F) → IsKeptInterval (stated interval factors)) intervals
-  intervals_kept limit few [] [] h = All-nil (λ (interval : Interval F). (factors : List F) → IsKeptInterval (stated interval factors))
+  intervals_kept : (limit : ℕ) → p.columns ≤ 128 → (asked : List (Asked F)) (intervals : List Interval) → AreRightIntervals value p limit asked intervals
+      → All (λ (interval : Interval). (factors : List Fraction) → IsKeptInterval (stated interval factors)) intervals
+  intervals_kept limit few [] [] h = All-nil (λ (interval : Interval). (factors : List Fraction) → IsKeptInterval (stated interval factors))
   intervals_kept limit few [] (x ∷ xs) h = absurd h
   intervals_kept limit few (a ∷ others) [] h = absurd h
   intervals_kept limit few (a ∷ others) (x ∷ xs) h =
-      All-cons (λ (interval : Interval F). (factors : List F) → IsKeptInterval (stated interval factors)) x xs
+      All-cons (λ (interval : Interval). (factors : List Fraction) → IsKeptInterval (stated interval factors)) x xs
       (kept_interval x few h.0.lawful.conditions.column h.0.lawful.lawful) (intervals_kept limit few others xs h.1)
 
 -- a list of no length is empty
@@ -97,17 +96,17 @@ nothing_left [] h = refl
 nothing_left (x ∷ xs) h = absurd (omega (arith, h))
 
 -- what is stated of one interval more
-pub stated_more : {F : Type 0} (made : List (IntervalProof F)) (r : Interval F) (x : IntervalProof F) (left : List (Interval F)) → Some x ≡ statement r
+pub stated_more : (made : List IntervalProof) (r : Interval) (x : IntervalProof) (left : List Interval) → Some x ≡ statement r
     → map Some (made ++ x ∷ []) ++ map statement left ≡ map Some made ++ map statement (r ∷ left)
 stated_more [] r x left e = ap (λ o. o ∷ map statement left) e
 stated_more (m ∷ made) r x left e = ap (λ l. Some m ∷ l) (stated_more made r x left e)
 
 -- what is stated of intervals keeps what they keep
-pub proofs_kept : (intervals : List (Interval Frac128)) (proofs : List (IntervalProof Frac128)) → map Some proofs ≡ map statement intervals → All IsKept intervals → All IsKeptInterval proofs
+pub proofs_kept : (intervals : List Interval) (proofs : List IntervalProof) → map Some proofs ≡ map statement intervals → All IsKept intervals → All IsKeptInterval proofs
 proofs_kept intervals proofs e h = by intervals proofs (stated_each intervals proofs e) h
   where
-    by : (rs : List (Interval Frac128)) (xs : List (IntervalProof Frac128))
-        → AllZip (λ r x. (factors : List Frac128) × (r.projection ≡ Some factors) × (x ≡ stated r factors)) rs xs → All IsKept rs → All IsKeptInterval xs
+    by : (rs : List Interval) (xs : List IntervalProof)
+        → AllZip (λ r x. (factors : List Fraction) × (r.projection ≡ Some factors) × (x ≡ stated r factors)) rs xs → All IsKept rs → All IsKeptInterval xs
     by [] [] is h = All-nil IsKeptInterval
     by [] (x ∷ xs) is h = absurd is
     by (r ∷ rs) [] is h = absurd is

@@ -1,28 +1,24 @@
 -- What a process leaves is right, and what stops it has its cause.
-use Rattle.std.proofs.Common.{◌≡◌, ◌<◌, ◌≤◌, ◌+◌, ℕ, suc, filter, slice_set, List, [], ◌∷◌, All, length, Contains, Some, get_or, inl, inr, arith, refl, sym, ap, subst, ◌∙◌}
+use Rattle.std.proofs.Common.{◌≡◌, ◌<◌, ◌≤◌, ℕ, filter, List, [], ◌∷◌, All, length, Contains, Some, get_or, arith, sym, ap, subst, ◌∙◌}
 use Rattle.std.specs.List.{AllZip}
-use Rattle.std.proofs.lemmas.List.{length-append}
-use Rattle.std.proofs.lemmas.Option.{slice_get-get_or}
-use Rattle.std.proofs.lemmas.List.Elements.{All-cons, All-nil}
+use Rattle.std.proofs.lemmas.List.Elements.{All-cons, All-head, All-nil, All-tail}
 use Rattle.rational_laws.specs.Fraction.{Fraction, rational}
 use Rattle.rational_laws.specs.Rational.{ℚ, ◌≤ℚ◌}
 use Rattle.frac_core.specs.declared.frac128.Frac128.{Frac128}
 use Rattle.frac_core.specs.Values.{value}
 use Rattle.loss_model.specs.declared.interval.Interval.{Interval}
 use Rattle.loss_model.specs.declared.problem.Problem.{Problem}
-use Rattle.loss_model.specs.declared.process.Exchange.{Exchange}
 use Rattle.loss_model.specs.declared.process.Process.{Process}
 use Rattle.loss_model.specs.declared.process.Segment.{Segment}
-use Rattle.loss_model.specs.declared.spill.Short.{Short}
-use Rattle.loss_model.specs.declared.spill.Short.TheVariants as shorts
 use Rattle.loss_model.specs.declared.stop.Stop.{Stop}
 use Rattle.loss_model.specs.declared.stop.Stop.TheVariants as stops
 use Rattle.loss_model.specs.Dual.{IsDual}
-use Rattle.loss_model.specs.Problem.{sample, value_at, IsWellShaped}
-use Rattle.loss_model.specs.Quantities.{IsShortOf}
+use Rattle.loss_model.specs.Problem.{number_at, sample, IsWellShaped}
 use Rattle.loss_model.specs.Sample.{loss}
 use Rattle.loss_model.specs.Segment.{dual_at}
 use Rattle.loss_model.specs.Vertex.{IsVertexOf}
+use Rattle.ratio.specs.Lowest.{IsLowest}
+use Rattle.cert_text.specs.Numbers.{SegmentHas}
 use Rattle.loss_model.proofs.Duality.{minimum}
 use Rattle.loss_model.proofs.Intervals.{mixes}
 use Rattle.loss_model.proofs.Mixes.{minimum_between, mixed}
@@ -34,7 +30,6 @@ use Rattle.tau_process.specs.Processes.{HasResults, IsProcess}
 use Rattle.tau_process.specs.Stops.{IsLimited, IsProcessStop}
 use Rattle.rankscores.specs.declared.pair.ScorePair.{ScorePair}
 use Rattle.rankscores.specs.Scores.{IsScorable, IsScored}
-use Rattle.rankscores.specs.Spills.{IsScoresSpill}
 use Rattle.rq_words.specs.declared.job.FitJob.{FitJob}
 use Rattle.rq_words.specs.declared.job.RankAsk.{RankAsk}
 use Rattle.report_text.specs.declared.report.Fit.{Fit}
@@ -42,24 +37,24 @@ use Rattle.report_text.specs.declared.report.Halt.{Halt}
 use Rattle.report_text.specs.declared.report.Place.TheVariants as places
 use Rattle.report_text.specs.declared.report.Halt.TheVariants.{Refused, OutOfMemory, PivotLimit, Overflow}
 use Rattle.report_text.specs.declared.report.Refusal.TheVariants.{Dependent}
-use Rattle.rq_input.proofs.Lists.{filter_count}
 use Rattle.rq_engine.specs.Fit.{IsOptimalAt, IsOptimalWithin, IsRightFit, IsRightProcess, IsRightSegment, mixed_dual}
-use Rattle.rq_engine.specs.Halts.{interval_halt, short_halt, stop_halt}
+use Rattle.rq_engine.specs.Halts.{interval_halt, stop_halt}
 use Rattle.rq_engine.specs.Intervals.{AreRightIntervals, asked_by, asked_over, IsFirstStop}
+use Rattle.rq_engine.specs.Lowest.{IsLowestInterval, IsLowestPair}
 use Rattle.rq_engine.specs.RankProblems.{HasIntervalCause}
 use Rattle.rank_inversion.specs.declared.asks.IntervalStop.{IntervalStop}
 use Rattle.rank_inversion.specs.declared.column_test.Asked.{Asked}
-use Rattle.rq_engine.specs.Stops.{IsSegmentSpill, HasProblemCause, most}
+use Rattle.rq_engine.specs.Stops.{HasProblemCause, most}
 
 -- ---- the segments
 
 module _ {F : Type 0} (value : F → Fraction) (p : Problem F) where
-  module _ (stay : Stay) (s : Segment F) (is : IsSegmentOf value p stay s) where
+  module _ (stay : Stay) (s : Segment) (is : IsSegmentOf value p stay s) where
     shape : IsVertexOf p s.vertex
     shape = is.vertex.holds.0.shape
 
     -- a list of the dual values of the basic rows is as long as these
-    same_size : (basic : List F) → length basic ≡ p.columns → length basic ≡ length s.vertex.basis.rows
+    same_size : (basic : List Fraction) → length basic ≡ p.columns → length basic ≡ length s.vertex.basis.rows
     same_size basic size = size ∙ sym shape.size
 
     -- the basic rows are rows of the problem
@@ -81,34 +76,34 @@ module _ {F : Type 0} (value : F → Fraction) (p : Problem F) where
 
     module _ (optimal : IsOptimalSegment value p s) where
       abbrev coefficients : ℕ → ℚ
-      coefficients = value_at value s.vertex.coef
+      coefficients = number_at s.vertex.coef
 
-      at_lo : IsOptimalAt value p s.vertex (rational (value s.lo)) s.basic_lo s.loss_lo
+      at_lo : IsOptimalAt value p s.vertex (rational s.lo) s.basic_lo s.loss_lo
       at_lo =
           record {
             basic = same_size s.basic_lo is.vertex.holds.1.size;
-            minimises = minimum (sample value p) (rational (value s.lo)) coefficients _ optimal.at_lo;
+            minimises = minimum (sample value p) (rational s.lo) coefficients _ optimal.at_lo;
             dual = optimal.at_lo;
             lost = is.loss_lo ∙ ap (λ t. loss (sample value p) t coefficients) (sym is.lo);
           }
 
-      at_hi : IsOptimalAt value p s.vertex (rational (value s.hi)) s.basic_hi s.loss_hi
+      at_hi : IsOptimalAt value p s.vertex (rational s.hi) s.basic_hi s.loss_hi
       at_hi =
           record {
             basic = same_size s.basic_hi is.vertex.holds.2.size;
-            minimises = minimum (sample value p) (rational (value s.hi)) coefficients _ optimal.at_hi;
+            minimises = minimum (sample value p) (rational s.hi) coefficients _ optimal.at_hi;
             dual = optimal.at_hi;
             lost = is.loss_hi ∙ ap (λ t. loss (sample value p) t coefficients) (sym is.hi);
           }
 
-      within : 1 ≤ (value s.lo).den → 1 ≤ (value s.hi).den → (theta : Fraction) → 1 ≤ theta.den → rational (value s.lo) ≤ℚ rational theta → rational theta ≤ℚ rational (value s.hi)
+      within : 1 ≤ s.lo.den → 1 ≤ s.hi.den → (theta : Fraction) → 1 ≤ theta.den → rational s.lo ≤ℚ rational theta → rational theta ≤ℚ rational s.hi
           → IsOptimalWithin value p s (rational theta)
       within low high theta positive after before =
-          let parts = mixes (value s.lo) (value s.hi) theta low high positive after before in
-          let at_mix = mixed (sample value p) (rational (value s.lo)) (rational (value s.hi)) coefficients (dual_at value p s.vertex s.basic_lo s.lo)
+          let parts = mixes s.lo s.hi theta low high positive after before in
+          let at_mix = mixed (sample value p) (rational s.lo) (rational s.hi) coefficients (dual_at value p s.vertex s.basic_lo s.lo)
           (dual_at value p s.vertex s.basic_hi s.hi) parts.0 parts.1 parts.2 optimal.at_lo optimal.at_hi in
           record {
-            minimises = minimum_between (sample value p) (rational (value s.lo)) (rational (value s.hi)) (rational theta) coefficients _ _ optimal.at_lo optimal.at_hi after before;
+            minimises = minimum_between (sample value p) (rational s.lo) (rational s.hi) (rational theta) coefficients _ _ optimal.at_lo optimal.at_hi after before;
             m = parts.0;
             n = parts.1;
             some = parts.2;
@@ -116,64 +111,41 @@ module _ {F : Type 0} (value : F → Fraction) (p : Problem F) where
             dual = subst (λ t. IsDual (sample value p) t coefficients (mixed_dual value p s parts.0 parts.1)) (sym parts.3) at_mix;
           }
 
-      right_segment : ((x : F) → 1 ≤ (value x).den) → IsRightSegment value p s
-      right_segment positive = record { vertex = shape; at_lo = at_lo; at_hi = at_hi; within = within (positive s.lo) (positive s.hi) }
+      right_segment : SegmentHas IsLowest s → IsRightSegment value p s
+      right_segment lowest = record { vertex = shape; at_lo = at_lo; at_hi = at_hi; within = within lowest.lo.positive lowest.hi.positive }
 
   -- all of them
-  pub right_segments : ((x : F) → 1 ≤ (value x).den) → (stays : List Stay) (segments : List (Segment F)) → AreSegmentsOf value p stays segments → AreOptimalSegments value p segments → All (IsRightSegment value p) segments
-  right_segments positive [] [] are optimal = All-nil (IsRightSegment value p)
-  right_segments positive [] (s ∷ segments) are optimal = absurd are
-  right_segments positive (x ∷ stays) [] are optimal = absurd are
-  right_segments positive (x ∷ stays) (s ∷ segments) are optimal =
-      All-cons (IsRightSegment value p) s segments (right_segment x s are.0 optimal.0 positive) (right_segments positive stays segments are.1 optimal.1)
+  pub right_segments : (stays : List Stay) (segments : List Segment) → AreSegmentsOf value p stays segments → AreOptimalSegments value p segments → All (SegmentHas IsLowest) segments → All (IsRightSegment value p) segments
+  right_segments [] [] are optimal lowest = All-nil (IsRightSegment value p)
+  right_segments [] (s ∷ segments) are optimal lowest = absurd are
+  right_segments (x ∷ stays) [] are optimal lowest = absurd are
+  right_segments (x ∷ stays) (s ∷ segments) are optimal lowest =
+      All-cons (IsRightSegment value p) s segments (right_segment x s are.0 optimal.0 (All-head (SegmentHas IsLowest) s segments lowest)) (right_segments stays segments are.1 optimal.1 (All-tail (SegmentHas IsLowest) s segments lowest))
 
-  pub scorable_segments : (stays : List Stay) (segments : List (Segment F)) → AreSegmentsOf value p stays segments → All (IsScorable p) segments
+  pub scorable_segments : (stays : List Stay) (segments : List Segment) → AreSegmentsOf value p stays segments → All (IsScorable p) segments
   scorable_segments [] [] are = All-nil (IsScorable p)
   scorable_segments [] (s ∷ segments) are = absurd are
   scorable_segments (x ∷ stays) [] are = absurd are
   scorable_segments (x ∷ stays) (s ∷ segments) are = All-cons (IsScorable p) s segments (scorable x s are.0) (scorable_segments stays segments are.1)
 
-  segment_count : (stays : List Stay) (segments : List (Segment F)) → AreSegmentsOf value p stays segments → length segments ≡ length stays
-  segment_count [] [] are = refl
-  segment_count [] (s ∷ segments) are = absurd are
-  segment_count (x ∷ stays) [] are = absurd are
-  segment_count (x ∷ stays) (s ∷ segments) are = ap suc (segment_count stays segments are.1)
-
-  stay_count : (hi from : ℚ) (basis : List ℕ) (steps : List (Exchange F)) → length (stays (theta_value value) hi from basis steps) ≡ suc (length steps)
-  stay_count hi from basis [] = refl
-  stay_count hi from basis (s ∷ steps) = ap suc (stay_count hi (rational (value s.theta)) (slice_set basis s.position s.row) steps)
-
-  -- there is at most one segment more than steps
-  pub few_segments : (lo hi : ℚ) (q : Process F) → HasResults value p lo hi q → length q.segments ≤ length q.trail.steps + 1
-  few_segments lo hi q h =
-      let start = basis_after h.lawful.first h.lawful.solving in
-      let all = stays (theta_value value) hi lo start h.lawful.walking in
-      omega (
-        arith,
-        segment_count (filter (is_reported lo hi) all) q.segments h.segments,
-        filter_count (is_reported lo hi) all,
-        stay_count hi lo start h.lawful.walking,
-        ap length h.lawful.all,
-        length-append h.lawful.solving h.lawful.walking,
-      )
-
-  pub process_scorable : (lo hi : ℚ) (q : Process F) → HasResults value p lo hi q → All (IsScorable p) q.segments
+  pub process_scorable : (lo hi : ℚ) (q : Process) → HasResults value p lo hi q → All (IsScorable p) q.segments
   process_scorable lo hi q h =
-      scorable_segments (filter (is_reported lo hi) (stays (theta_value value) hi lo (basis_after h.lawful.first h.lawful.solving) h.lawful.walking)) q.segments h.segments
+      scorable_segments (filter (is_reported lo hi) (stays theta_value hi lo (basis_after h.lawful.first h.lawful.solving) h.lawful.walking)) q.segments h.segments
 
-  pub process_right : ((x : F) → 1 ≤ (value x).den) → (lo hi : ℚ) (q : Process F) → IsProcess value p lo hi q → All (IsRightSegment value p) q.segments
-  process_right positive lo hi q h =
+  pub process_right : (lo hi : ℚ) (q : Process) → IsProcess value p lo hi q → All (SegmentHas IsLowest) q.segments → All (IsRightSegment value p) q.segments
+  process_right lo hi q h lowest =
       let results = h.results in
-      right_segments positive (filter (is_reported lo hi) (stays (theta_value value) hi lo (basis_after results.lawful.first results.lawful.solving) results.lawful.walking))
-      q.segments results.segments h.optimal
+      right_segments (filter (is_reported lo hi) (stays theta_value hi lo (basis_after results.lawful.first results.lawful.solving) results.lawful.walking))
+      q.segments results.segments h.optimal lowest
 
 -- a process whose trail is within the limit is right
-pub right_process : (job : FitJob) (p : Problem Frac128) (q : Process Frac128) → IsProcess value p (rational (value job.lo)) (rational (value job.hi)) q → length q.trail.steps ≤ job.limit
-    → ¬ IsLimited {F = Frac128} value (sample value p) (rational (value job.lo)) (rational (value job.hi)) job.limit → IsRightProcess value job p q
-right_process job p q is short unlimited =
+pub right_process : (job : FitJob) (p : Problem Frac128) (q : Process) → IsProcess value p (rational (value job.lo)) (rational (value job.hi)) q → length q.trail.steps ≤ job.limit
+    → All (SegmentHas IsLowest) q.segments → ¬ IsLimited (sample value p) (rational (value job.lo)) (rational (value job.hi)) job.limit → IsRightProcess value job p q
+right_process job p q is short lowest unlimited =
     record {
       covers = is.covers;
-      segments = process_right value p (λ x. x.within.positive) (rational (value job.lo)) (rational (value job.hi)) q is;
+      segments = process_right value p (rational (value job.lo)) (rational (value job.hi)) q is lowest;
+      lowest = lowest;
       results = is.results;
       short = short;
       unlimited = unlimited;
@@ -182,7 +154,7 @@ right_process job p q is short unlimited =
 -- ---- the fit
 
 -- the first n rows of the problem are data rows
-module _ (job : FitJob) (n : ℕ) (p : Problem Frac128) (q : Process Frac128) (scores : List (List (ScorePair Frac128))) (intervals : List (Interval Frac128)) where
+module _ (job : FitJob) (n : ℕ) (p : Problem Frac128) (q : Process) (scores : List (List ScorePair)) (intervals : List Interval) where
   -- a fit by its parts
   abbrev whole_fit : Fit → Fit
   whole_fit fit =
@@ -198,13 +170,15 @@ module _ (job : FitJob) (n : ℕ) (p : Problem Frac128) (q : Process Frac128) (s
       }
 
   pub right_fit : IsWellShaped p → IsRightProcess value job p q → AllZip (IsScored value p n) q.segments scores → AreRightIntervals value p job.limit (asked_by job.rank p.columns) intervals
-      → (fit : Fit) → fit.process ≡ q → fit.scores ≡ scores → fit.intervals ≡ intervals → fit.problem ≡ p → fit.data_rows ≡ n → IsRightFit value job fit
-  right_fit shaped right_process scored right fit process told made problem data_rows =
+      → All (All IsLowestPair) scores → All IsLowestInterval intervals → (fit : Fit) → fit.process ≡ q → fit.scores ≡ scores → fit.intervals ≡ intervals → fit.problem ≡ p → fit.data_rows ≡ n → IsRightFit value job fit
+  right_fit shaped right_process scored right lowest_scores lowest_intervals fit process told made problem data_rows =
       subst (IsRightFit value job) (sym same) (record {
         shaped = shaped;
         process = right_process;
         scores = scored;
         intervals = right;
+        lowest_scores = lowest_scores;
+        lowest_intervals = lowest_intervals;
       })
     where
       same : fit ≡ whole_fit fit
@@ -224,16 +198,11 @@ module _ (job : FitJob) (n : ℕ) (p : Problem Frac128) (q : Process Frac128) (s
 pub stop_cause : (job : FitJob) (n : ℕ) (p : Problem Frac128) (stop : Stop Frac128) → IsProcessStop value most p (rational (value job.lo)) (rational (value job.hi)) job.limit stop → HasProblemCause job n p (stop_halt places.Process stop)
 stop_cause job n p stops.OutOfMemory h = tt
 stop_cause job n p (stops.PivotLimit limit trail) h = h
-stop_cause job n p (stops.Overflow trail spill) h = inl h
+stop_cause job n p (stops.Overflow trail spill) h = h
 stop_cause job n p (stops.Dependent combination) h = h
 
-pub short_cause : (job : FitJob) (n : ℕ) (p : Problem Frac128) (q : Process Frac128) → HasResults value p (rational (value job.lo)) (rational (value job.hi)) q → length q.trail.steps ≤ job.limit → (short : Short Frac128)
-    → IsShortOf (IsSegmentSpill value most p n q.segments) short → HasProblemCause job n p (short_halt places.Process short q.trail)
-short_cause job n p q results short shorts.OutOfMemory unscored = tt
-short_cause job n p q results short (shorts.Overflow spill) unscored = inr (record { segments = q.segments; results = results; short = short; operation = unscored })
-
 -- an interval that stops is why there is no fit, after the process and the scores
-pub interval_cause : (job : FitJob) (n : ℕ) (p : Problem Frac128) (q : Process Frac128) (scores : List (List (ScorePair Frac128))) → HasResults value p (rational (value job.lo)) (rational (value job.hi)) q → length q.trail.steps ≤ job.limit
+pub interval_cause : (job : FitJob) (n : ℕ) (p : Problem Frac128) (q : Process) (scores : List (List ScorePair)) → HasResults value p (rational (value job.lo)) (rational (value job.hi)) q → length q.trail.steps ≤ job.limit
     → AllZip (IsScored value p n) q.segments scores → (halt : Halt) → HasIntervalCause job p halt → HasProblemCause job n p halt
 interval_cause job n p q scores results short scored (Refused (Dependent combination)) h = h
 interval_cause job n p q scores results short scored OutOfMemory h = tt
@@ -256,10 +225,3 @@ pub stopped_cause : (job : FitJob) (p : Problem Frac128) (rank : RankAsk) → jo
     → IsFirstStop value most p job.limit (asked_over rank.crit p.columns rank.taus) stopped.asked stopped.stop → HasIntervalCause job p (interval_halt stopped)
 stopped_cause job p rank some stopped h =
     stop_by job p stopped.asked stopped.stop (subst (λ o. IsFirstStop value most p job.limit (asked_by o p.columns) stopped.asked stopped.stop) (sym some) h)
-
--- an operation of the scores of the segment at k is one of the segments
-pub segment_unscored : {F : Type 0} (value : F → Fraction) (range : ℕ) (p : Problem F) (n : ℕ) (segments : List (Segment F)) (k : ℕ) (s : Segment F) → k < length segments → s ≡ get_or segments k s → (short : Short F)
-    → IsShortOf (IsScoresSpill value range p n k s) short → IsShortOf (IsSegmentSpill value range p n segments) short
-segment_unscored value range p n segments k s within here shorts.OutOfMemory unscored = tt
-segment_unscored value range p n segments k s within here (shorts.Overflow spill) unscored =
-    record { number = k; segment = s; there = slice_get-get_or segments k s within ∙ ap Some (sym here); operation = unscored }

@@ -1,7 +1,7 @@
 pub mod Asked
+mod Readable
 pub mod Causes
 pub mod Certifying
-pub mod Checks
 pub mod Costs
 pub mod Fits
 pub mod Listed

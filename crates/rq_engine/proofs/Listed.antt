@@ -90,7 +90,7 @@ are_listed i (Basic ∷ sides) [] h = let c = h.there 0 refl in absurd (omega (a
 are_listed i (Basic ∷ sides) (x ∷ xs) h = ap₂ (λ y ys. y ∷ ys) (first_is i sides x xs h) (are_listed (i + 1) sides xs (taken i sides x xs h))
 
 -- a vertex whose basis has rows of the problem
-pub listed_vertex : {F : Type 0} (p : Problem F) (v : Vertex F) → IsVertexOf p v → All (λ i. i < length p.rows) v.basis.rows → IsListed v
+pub listed_vertex : {F : Type 0} (p : Problem F) (v : Vertex) → IsVertexOf p v → All (λ i. i < length p.rows) v.basis.rows → IsListed v
 listed_vertex p v h inside = are_listed 0 v.sides v.basis.rows (record {
   rises = λ j k d l m. AllPairs-from_increasing v.basis.rows h.ascending j k d l m;
   late = λ n c. omega arith;

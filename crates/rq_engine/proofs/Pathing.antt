@@ -1,6 +1,6 @@
 -- Why an input has a path in lambda: its costs are lawful at every lambda above 0, and its columns are independent.
 use Rattle.std.proofs.Common.{◌≡◌, ◌≤◌, ◌+◌, ◌-◌, Bool, true, false, List, length, pos, arith, ap, inl, inr, refl}
-use Rattle.rational_laws.specs.Fraction.{rational}
+use Rattle.rational_laws.specs.Fraction.{Fraction, rational}
 use Rattle.rational_laws.specs.Rational.{ℚ, whole}
 use Rattle.rational_laws.proofs.OrderLaws.{cmp_ℚ-Less}
 use Rattle.rational_laws.proofs.RationalLaws.{≤ℚ_trans}
@@ -32,8 +32,6 @@ use Rattle.rq_engine.specs.Halts.{stop_halt}
 use Rattle.rq_engine.specs.PathHalts.{path_halt}
 use Rattle.rq_engine.specs.Paths.{HasPathCause, IsPathFitOf, IsPathProblem, first_penalised}
 use Rattle.rq_engine.specs.Stops.{most}
-use Rattle.report_text.specs.declared.report.Refusal.TheVariants.{Dependent}
-use Rattle.report_text.specs.declared.report.Halt.TheVariants.{OutOfMemory, PivotLimit, Overflow}
 
 -- the first penalised column is one of them, or the end
 pub first_within : (plain : PlainInput) → HasRows plain.input → first_penalised plain.intercept ≤ plain.input.problem.columns
@@ -66,7 +64,7 @@ module _ (job : PathJob) (plain : PlainInput) (first : HasIntercept plain.interc
       by true e = independent (sample value plain.input.problem) (first_penalised plain.intercept) (rational (value job.tau)) (sample value q) path (inr (ap first_penalised e, first.some, first.entry e))
       by false e = independent (sample value plain.input.problem) (first_penalised plain.intercept) (rational (value job.tau)) (sample value q) path (inl (ap first_penalised e))
 
-  pub not_dependent : (combination : List Frac128) → ¬ IsDependent value q combination
+  pub not_dependent : (combination : List Fraction) → ¬ IsDependent value q combination
   not_dependent combination d = d.dependence.some (full_rank _ d.dependence.zero d.dependence.column d.dependence.within)
 
   pub path_stop : (stop : Stop Frac128) → IsProcessStop value most q (rational (value job.fit.lo)) (rational (value job.fit.hi)) job.fit.limit stop → HasPathCause job plain (stop_halt places.Process stop)

@@ -27,7 +27,7 @@ use Rattle.nested_test.specs.Restricted.{AreTested, restricted_problem, restrict
 use Rattle.rq_words.specs.declared.job.FitJob.{FitJob}
 use Rattle.rq_words.specs.declared.job.TestJob.{TestJob}
 use Rattle.report_text.specs.declared.report.Halt.{Halt}
-use Rattle.report_text.specs.declared.report.Halt.TheVariants.{Refused, PivotLimit, Overflow, OutOfMemory}
+use Rattle.report_text.specs.declared.report.Halt.TheVariants.{Refused, PivotLimit, Overflow}
 use Rattle.report_text.specs.declared.report.Refusal.TheVariants.{Dependent}
 use Rattle.report_text.specs.declared.report.Place.TheVariants as places
 use Rattle.rq_input.specs.Rows.{HasRows}
@@ -95,7 +95,7 @@ data_stays p tested i row =
 
 -- ---- the process without them
 
-module _ (job : FitJob) (ask : IsUnitAsk job) (q : Problem Frac128) (walked : Process Frac128) (made : IsProcess value q (rational (value job.lo)) (rational (value job.hi)) walked) (short : length walked.trail.steps ≤ job.limit) where
+module _ (job : FitJob) (ask : IsUnitAsk job) (q : Problem Frac128) (walked : Process) (made : IsProcess value q (rational (value job.lo)) (rational (value job.hi)) walked) (short : length walked.trail.steps ≤ job.limit) where
   pub process_covers : Covers (length q.rows) (whole (pos 0)) (whole (pos 1)) (segments_of value q walked.segments)
   process_covers =
       subst (λ z. Covers (length q.rows) z (whole (pos 1)) (segments_of value q walked.segments)) (sym ask.low)
@@ -121,7 +121,7 @@ module _ (job : FitJob) (p : Problem Frac128) (tested : List ℕ) (q : Problem F
       subst (λ (q : Problem Frac128). HasScoredCause job q (stop_halt places.Process stop)) is
       (scored_stop job q (subst (λ (q : Problem Frac128). HasFullRank (sample value q)) (sym is) full) stop h)
 
-  pub scored_there : (walked : Process Frac128) (wilcoxon : List Fraction) → AreScoredBy job q walked wilcoxon → AreScoredBy job (restricted_problem tested p) walked wilcoxon
+  pub scored_there : (walked : Process) (wilcoxon : List Fraction) → AreScoredBy job q walked wilcoxon → AreScoredBy job (restricted_problem tested p) walked wilcoxon
   scored_there walked wilcoxon by = subst (λ (q : Problem Frac128). AreScoredBy job q walked wilcoxon) is by
 
 -- ---- the input

@@ -1,8 +1,5 @@
 -- Inner. The halts of the solver: want of memory is its own.
 use Rattle.frac_core.specs.declared.frac128.Frac128.{Frac128}
-use Rattle.loss_model.specs.declared.process.Trail.{Trail}
-use Rattle.loss_model.specs.declared.spill.Short.{Short}
-use Rattle.loss_model.specs.declared.spill.Short.TheVariants as shorts
 use Rattle.loss_model.specs.declared.stop.Stop.{Stop}
 use Rattle.loss_model.specs.declared.stop.Stop.TheVariants as stops
 use Rattle.report_text.specs.declared.report.Refusal.TheVariants.{Dependent}
@@ -22,8 +19,3 @@ stop_halt place (stops.Dependent combination) = Refused (Dependent combination)
 -- that of an interval, at its column and its quantile
 abbrev pub interval_halt : IntervalStop Frac128 → Halt
 interval_halt stopped = stop_halt (Interval stopped.asked.column stopped.asked.tau) stopped.stop
-
--- after the walk the trail is whole
-abbrev pub short_halt : Place → Short Frac128 → Trail Frac128 → Halt
-short_halt place shorts.OutOfMemory trail = OutOfMemory
-short_halt place (shorts.Overflow spill) trail = Overflow place trail spill

@@ -3,7 +3,7 @@ pub mod Asks
 pub mod Fit
 pub mod Halts
 pub mod Intervals
-pub mod Lacking
+pub mod Lowest
 pub mod PathHalts
 pub mod Paths
 pub mod Predicted
@@ -13,6 +13,7 @@ pub mod Stops
 pub mod Tested
 -- what is right for its bytes
 pub mod Answers
+pub mod Digits
 pub mod Certificates
 pub mod Certifying
 pub mod Checks

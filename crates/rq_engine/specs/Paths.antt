@@ -57,7 +57,7 @@ abbrev pub HasPathCause : PathJob → PlainInput → Halt → Type 0
 HasPathCause job plain (Refused (Program TooManyRows)) = most_rows < row_count plain.input.problem (first_penalised plain.intercept)
 HasPathCause job plain OutOfMemory = ⊤
 HasPathCause job plain (PivotLimit places.Process limit trail) =
-    (limit ≡ job.fit.limit) × LacksPath job plain (λ p. ReachesProcessLimit value (sample value p) (rational (value job.fit.lo))
+    (limit ≡ job.fit.limit) × LacksPath job plain (λ p. ReachesProcessLimit (sample value p) (rational (value job.fit.lo))
     (rational (value job.fit.hi)) job.fit.limit trail)
 HasPathCause job plain (Overflow places.Process trail spill) =
     LacksPath job plain (λ p. IsProcessSpill value most p (rational (value job.fit.lo)) (rational (value job.fit.hi)) job.fit.limit trail spill)

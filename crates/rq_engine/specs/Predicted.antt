@@ -1,22 +1,17 @@
 -- Stated. The right predictions of an input over a range of quantiles, and why there are none.
-use Rattle.std.specs.Prelude.{◌≡◌, ℕ, ◌≤◌, All, List, Contains, length, ⊤}
+use Rattle.std.specs.Prelude.{◌≡◌, All, List, length, ⊤}
 use Rattle.std.specs.List.{AllZip}
 use Rattle.rational_laws.specs.Fraction.{rational}
 use Rattle.rational_laws.specs.Rational.{ℚ}
-use Rattle.frac_core.specs.declared.frac128.Frac128.{Frac128}
 use Rattle.frac_core.specs.Values.{value}
 use Rattle.loss_model.specs.declared.process.Segment.{Segment}
-use Rattle.loss_model.specs.declared.process.Trail.{Trail}
-use Rattle.loss_model.specs.declared.spill.Spill.{Spill}
 use Rattle.loss_model.specs.Problem.{sample, IsWellShaped}
 use Rattle.loss_model.specs.StartStop.{IsDependent}
 use Rattle.walk_model.specs.WalkTrails.{ReachesProcessLimit}
-use Rattle.tau_process.specs.Processes.{HasResults}
 use Rattle.tau_process.specs.Stops.{IsProcessSpill}
-use Rattle.predict_steps.specs.LowestEnds.{HasLowestEnds}
-use Rattle.predict_steps.specs.Predictions.{pieces, rearranged_pieces, AreSteps}
+use Rattle.predict_steps.specs.LowestSteps.{IsLowestStep}
+use Rattle.predict_steps.specs.Predictions.{pieces, AreSteps}
 use Rattle.predict_steps.specs.Rearranged.{IsRearrangement}
-use Rattle.predict_steps.specs.Spills.{IsStepsSpill}
 use Rattle.design_matrix.specs.declared.design.PredictRow.{PredictRow}
 use Rattle.rq_words.specs.declared.job.FitJob.{FitJob}
 use Rattle.report_text.specs.declared.report.PredictFit.{PredictFit}
@@ -29,13 +24,13 @@ use Rattle.rq_input.specs.declared.predictions.PredictionInput.{PredictionInput}
 use Rattle.rq_engine.specs.Fit.{IsRightProcess}
 use Rattle.rq_engine.specs.Stops.{most}
 
--- the prediction of a row: a step along each of the segments, and the rearrangement of these from lo to hi, whose ends are in
--- lowest terms
-pub record IsPredictionBy (lo hi : ℚ) (segments : List (Segment Frac128)) (row : PredictRow) (prediction : Prediction) : Type 0 where
+-- the prediction of a row: a step along each of the segments, and the rearrangement of these from lo to hi, all in lowest terms
+pub record IsPredictionBy (lo hi : ℚ) (segments : List Segment) (row : PredictRow) (prediction : Prediction) : Type 0 where
   pub named : prediction.rec ≡ row.rec
   pub steps : AreSteps value row.x row.offsets segments prediction.steps
-  pub rearranged : IsRearrangement lo hi (pieces value prediction.steps) (rearranged_pieces value prediction.rearranged)
-  pub lowest : All HasLowestEnds prediction.rearranged
+  pub rearranged : IsRearrangement lo hi (pieces prediction.steps) (pieces prediction.rearranged)
+  pub lowest_steps : All IsLowestStep prediction.steps
+  pub lowest : All IsLowestStep prediction.rearranged
 
 -- the right process of the problem of the input, and the predictions along it of the rows that are asked; what is told
 -- beside is the design's
@@ -49,28 +44,13 @@ pub record IsPredictFitOf (job : FitJob) (asked : PredictionInput) (fit : Predic
 
 -- ---- why there are none
 
--- an operation of the prediction of a row overflows
-abbrev pub IsRowSpill : List (Segment Frac128) → PredictRow → Spill Frac128 → Type 0
-IsRowSpill segments row spill = IsStepsSpill value most row.rec row.x row.offsets segments spill
-
--- the process is at its end within the limit, and then such an operation of the row of this record overflows
-pub record LacksPrediction (job : FitJob) (asked : PredictionInput) (rec : ℕ) (trail : Trail Frac128) (spill : Spill Frac128) : Type 0 where
-  pub segments : List (Segment Frac128)
-  pub results : HasResults value asked.input.problem (rational (value job.lo)) (rational (value job.hi)) (record { segments = segments; trail = trail })
-  pub short : length trail.steps ≤ job.limit
-  pub row : PredictRow
-  pub there : Contains asked.rows row
-  pub named : rec ≡ row.rec
-  pub operation : IsRowSpill segments row spill
-
--- why an input has no predictions: dependent columns, a limit that is reached, or an operation that overflows, in the
--- process or in a prediction. Want of memory is free of a cause
+-- why an input has no predictions: dependent columns, a limit that is reached, or an operation of the process that overflows. Want
+-- of memory is free of a cause
 abbrev pub HasPredictedCause : FitJob → PredictionInput → Halt → Type 0
 HasPredictedCause job asked (Refused (Dependent combination)) = IsDependent value asked.input.problem combination
 HasPredictedCause job asked OutOfMemory = ⊤
 HasPredictedCause job asked (PivotLimit places.Process limit trail) =
-    (limit ≡ job.limit) × ReachesProcessLimit value (sample value asked.input.problem) (rational (value job.lo)) (rational (value job.hi)) job.limit trail
+    (limit ≡ job.limit) × ReachesProcessLimit (sample value asked.input.problem) (rational (value job.lo)) (rational (value job.hi)) job.limit trail
 HasPredictedCause job asked (Overflow places.Process trail spill) =
     IsProcessSpill value most asked.input.problem (rational (value job.lo)) (rational (value job.hi)) job.limit trail spill
-HasPredictedCause job asked (Overflow (places.Predict rec) trail spill) = LacksPrediction job asked rec trail spill
 HasPredictedCause job asked _ = ⊥

@@ -7,7 +7,7 @@ use Rattle.frac_core.specs.Values.{value}
 use Rattle.loss_model.specs.declared.problem.Problem.{Problem}
 use Rattle.loss_model.specs.declared.process.Process.{Process}
 use Rattle.loss_model.specs.FullRank.{HasFullRank}
-use Rattle.loss_model.specs.Problem.{sample, value_at, IsWellShaped}
+use Rattle.loss_model.specs.Problem.{number_at, sample, IsWellShaped}
 use Rattle.loss_model.specs.Segment.{Covers, segments_of}
 use Rattle.loss_model.specs.StartStop.{IsDependent, IsStartSpill}
 use Rattle.walk_model.specs.WalkTrails.{ReachesProcessLimit}
@@ -28,15 +28,15 @@ use Rattle.rq_engine.specs.Fit.{IsRightProcess}
 use Rattle.rq_engine.specs.Stops.{most}
 
 -- the process is right for the problem, covers 0 to 1, and these are the Wilcoxon scores of the rows by it
-pub record AreScoredBy (job : FitJob) (p : Problem Frac128) (q : Process Frac128) (wilcoxon : List Fraction) : Type 0 where
+pub record AreScoredBy (job : FitJob) (p : Problem Frac128) (q : Process) (wilcoxon : List Fraction) : Type 0 where
   pub process : IsRightProcess value job p q
   pub covers : Covers (length p.rows) (whole (pos 0)) (whole (pos 1)) (segments_of value p q.segments)
   pub scores : AreWilcoxon value p q.segments wilcoxon
 
 -- the scores of the tested columns and the statistic, by these Wilcoxon scores, and all in lowest terms
 pub record IsStatisticBy (job : TestJob) (p : Problem Frac128) (wilcoxon : List Fraction) (fit : TestFit) : Type 0 where
-  pub scores : AreScores value p job.tested (value_at (λ x. x) wilcoxon) fit.scores
-  pub statistic : IsNestedStatistic (sample value p) (slice_index job.tested) (length job.tested) (column_score (sample value p) (value_at (λ x. x) wilcoxon))
+  pub scores : AreScores value p job.tested (number_at wilcoxon) fit.scores
+  pub statistic : IsNestedStatistic (sample value p) (slice_index job.tested) (length job.tested) (column_score (sample value p) (number_at wilcoxon))
       (rational fit.statistic)
   pub lowest_scores : All IsLowest fit.scores
   pub lowest : IsLowest fit.statistic
@@ -61,7 +61,7 @@ pub record IsTestFitOf (job : TestJob) (input : Input) (fit : TestFit) : Type 0 
 abbrev pub HasScoredCause : FitJob → Problem Frac128 → Halt → Type 0
 HasScoredCause job p OutOfMemory = ⊤
 HasScoredCause job p (PivotLimit places.Process limit trail) =
-    (limit ≡ job.limit) × ReachesProcessLimit value (sample value p) (rational (value job.lo)) (rational (value job.hi)) job.limit trail
+    (limit ≡ job.limit) × ReachesProcessLimit (sample value p) (rational (value job.lo)) (rational (value job.hi)) job.limit trail
 HasScoredCause job p (Overflow places.Process trail spill) =
     IsProcessSpill value most p (rational (value job.lo)) (rational (value job.hi)) job.limit trail spill
 HasScoredCause job p halt = ⊥

@@ -10,11 +10,11 @@ ghost use Rattle.rq_engine.specs.Answers.{HasCertifiedCause, HasCertifyCause, Is
 ghost use Rattle.rq_engine.specs.Certificates.{IsCertificateOf, IsWritten, sides_of};
 ghost use Rattle.rq_engine.specs.Certifying.{IsKept, IsLengthHalt};
 
+use crate::digits::cert_is_readable;
 use crate::fit::fit_input;
 use cert_text::{Cert, write_cert};
-use frac_core::{Exact, Frac128, List, OutOfMemory};
+use frac_core::{List, OutOfMemory};
 use loss_model::{Interval, IntervalProof};
-use rank_inversion::Purpose;
 use report_text::{Fit, Halt, Refusal};
 use rq_fan::Gate;
 use rq_input::{Input, read_input};
@@ -29,7 +29,7 @@ const MOST_BYTES: u64 = 1 << 26;
 const MOST_SIDES: usize = 1 << 30;
 
 // What a certificate states of an interval that lists the factors of its projection.
-fn proof_of<F: Exact>(interval: Interval<F>) -> IntervalProof<F>
+fn proof_of(interval: Interval) -> IntervalProof
     requires { HasFactors interval }
     ensures { Some result ≡ statement interval }
 {
@@ -56,10 +56,7 @@ fn proof_of<F: Exact>(interval: Interval<F>) -> IntervalProof<F>
 }
 
 // What a certificate states of each of the intervals.
-fn proofs<F: Exact>(
-    alloc: Global,
-    intervals: List<Interval<F>>,
-) -> Result<List<IntervalProof<F>>, OutOfMemory>
+fn proofs(alloc: Global, intervals: List<Interval>) -> Result<List<IntervalProof>, OutOfMemory>
     requires { All HasFactors intervals }
     ensures { IfOk result (λ proofs. map Some proofs ≡ map statement intervals) }
 {
@@ -102,7 +99,7 @@ fn has_many_sides(cert: &Cert) -> bool
     rows.saturating_mul(segments) > MOST_SIDES
 }
 
-// Whether the text of a certificate is short enough, and its sides few enough.
+// Whether the text of a certificate is short enough, its sides few enough, and no number of it has more digits than are read.
 fn test_length(alloc: Global, cert: &Cert) -> Result<(), Halt>
     ensures written { OnOk result (IsWritten cert.now) }
     ensures long { IfErr result (IsLengthHalt cert.now) }
@@ -114,7 +111,11 @@ fn test_length(alloc: Global, cert: &Cert) -> Result<(), Halt>
     if length > MOST_BYTES || has_many_sides(cert) {
         return Err(Halt::Refused(Refusal::CertTooLong { length }));
     }
-    Ok(())
+    match cert_is_readable(alloc, cert) {
+        Ok(true) => Ok(()),
+        Ok(false) => Err(Halt::Refused(Refusal::CertTooLong { length })),
+        Err(OutOfMemory) => Err(Halt::OutOfMemory),
+    }
 }
 
 // The certificate of an input.
@@ -134,7 +135,7 @@ fn certify_input<R: Threads + Sync, G: Gate>(
     ensures written { IfOk result IsWritten }
     ensures cause { IfErr result (HasCertifiedCause job.now input) }
 {
-    let fit = match fit_input(rt, alloc, job, Purpose::Certificate, input, gate) {
+    let fit = match fit_input(rt, alloc, job, input, gate) {
         Ok(fit) => fit,
         Err(halt) => return Err(halt),
     };
@@ -148,8 +149,8 @@ fn certify_input<R: Threads + Sync, G: Gate>(
     }
 }
 
-/// The certificate of the fit over the range of a job, from the bytes of its input, if its text isn't
-/// longer than 2^26 bytes and its rows times its segments don't exceed 2^30.
+/// The certificate of the fit over the range of a job, from the bytes of its input, if its text isn't longer than 2^26
+/// bytes, its rows times its segments don't exceed 2^30, and no number of it has more than 65,536 digits.
 pub(crate) fn certify_bytes<R: Threads + Sync, G: Gate>(
     rt: &R,
     alloc: Global,

@@ -6,21 +6,21 @@ ghost use Rattle.rational_laws.specs.Rational.{whole};
 ghost use Rattle.frac_core.specs.Values.{value};
 ghost use Rattle.loss_model.specs.Dual.{IsDataRow};
 ghost use Rattle.loss_model.specs.Problem.{sample, IsWellShaped};
-ghost use Rattle.loss_model.specs.Quantities.{IsShortOf};
 ghost use Rattle.rankscores.specs.Scores.{IsScorable, IsScored};
 ghost use Rattle.report_text.specs.ReportText.{IsPrintable};
 ghost use Rattle.report_text.specs.declared.report.Report.TheVariants as reports;
 ghost use Rattle.rq_input.specs.Rows.{HasRows};
 ghost use Rattle.rq_engine.specs.Asks.{IsFitAsk, IsRankAskOf};
 ghost use Rattle.rq_engine.specs.Fit.{IsFitOf, IsFitUnder};
-ghost use Rattle.rq_engine.specs.Intervals.{AreRightIntervals, IsFor, asked_by};
+ghost use Rattle.rq_engine.specs.Intervals.{AreRightIntervals, HasFactors, asked_by};
 ghost use Rattle.rq_engine.specs.RankProblems.{HasIntervalCause};
-ghost use Rattle.rq_engine.specs.Stops.{HasProblemCause, IsSegmentSpill};
+ghost use Rattle.rq_engine.specs.Stops.{HasProblemCause};
 
-use crate::halt::{interval_halt, short_halt, stop_halt};
+use crate::halt::{interval_halt, stop_halt};
+use crate::lowest::{all_lowest_intervals, all_lowest_scores, all_lowest_segments};
 use frac_core::{Exact, Frac128, List, OutOfMemory};
-use loss_model::{Interval, Problem, Process, Segment, Short};
-use rank_inversion::{Purpose, RankAsks, all_intervals};
+use loss_model::{Interval, Problem, Process, Segment};
+use rank_inversion::{RankAsks, all_intervals};
 use rankscores::{ScorePair, scores};
 use report_text::{Fit, Halt, Place};
 use rq_fan::Gate;
@@ -36,17 +36,15 @@ fn all_scores<F: Exact>(
     alloc: Global,
     problem: &Problem<F>,
     data_rows: u32,
-    segments: &[Segment<F>],
-) -> Result<List<List<ScorePair<F>>>, Short<F>>
+    segments: &[Segment],
+) -> Result<List<List<ScorePair>>, OutOfMemory>
     requires scorable { All (IsScorable problem.now) segments.now }
-    requires few { length segments.now ≤ 2 ^ 32 }
     requires weighted { (i : ℕ) → i < data_rows → (sample F.value problem.now).up1 i ≢ whole (pos 0) }
-    ensures scored { IfOk result (AllZip (IsScored F.value problem.now data_rows) segments.now) }
-    ensures spilled { IfErr result (IsShortOf (IsSegmentSpill F.value F.range problem.now data_rows segments.now)) }
+    ensures { IfOk result (AllZip (IsScored F.value problem.now data_rows) segments.now) }
 {
     let mut all = List::new(alloc);
     for (number, segment) in segments.iter().enumerate() {
-        let pairs = scores(alloc, problem, data_rows, segment, number as u32)?;
+        let pairs = scores(alloc, problem, data_rows, segment)?;
         all.add(pairs)?;
     }
     Ok(all)
@@ -59,15 +57,14 @@ fn job_intervals<R: Threads + Sync, G: Gate>(
     rt: &R,
     alloc: Global,
     job: &FitJob,
-    purpose: Purpose,
     problem: &Problem<Frac128>,
     gate: &G,
-) -> Result<List<Interval<Frac128>>, Halt>
+) -> Result<List<Interval>, Halt>
     requires asked { IsRankAskOf job.now.rank }
     requires shaped { IsWellShaped problem.now }
     requires data { is_some job.now.rank ≡ true → (i : ℕ) → i < length problem.now.rows → IsDataRow (sample value problem.now) i }
     ensures right { IfOk result (AreRightIntervals value problem.now job.now.limit (asked_by job.now.rank problem.now.columns)) }
-    ensures purpose { IfOk result (All (IsFor purpose)) }
+    ensures listed { IfOk result (All HasFactors) }
     ensures cause { IfErr result (HasIntervalCause job.now problem.now) }
 {
     let Some(rank) = &job.rank else {
@@ -77,7 +74,6 @@ fn job_intervals<R: Threads + Sync, G: Gate>(
         crit: rank.crit,
         taus: rank.taus.as_slice(),
         limit: job.limit,
-        purpose,
     };
     match all_intervals(rt, alloc, problem, &asks, gate) {
         Ok(intervals) => Ok(intervals),
@@ -100,9 +96,9 @@ fn joined<T: Drop>(first: List<T>, second: List<T>) -> Result<List<T>, OutOfMemo
 // The fit of an input. It refuses only for memory.
 fn fit_of(
     input: Input,
-    process: Process<Frac128>,
-    scores: List<List<ScorePair<Frac128>>>,
-    intervals: List<Interval<Frac128>>,
+    process: Process,
+    scores: List<List<ScorePair>>,
+    intervals: List<Interval>,
 ) -> Result<Fit, OutOfMemory>
     requires { length input.design.rows < 2 ^ 32 }
     ensures process { IfOk result (λ fit. fit.process ≡ process) }
@@ -133,16 +129,13 @@ fn fit_of(
 /// The fit of an input over the range of a job, with the rank intervals that it asks for (Koenker 2005;
 /// Koenker and d'Orey 1987); for these the input has no penalty rows.
 ///
-/// `Dependent`, and `PivotLimit` and `Overflow` of the process are those of `process`; an overflow of a
-/// rankscore comes after it, with the whole trail, and after that the first stop of an interval, with its
-/// column and its quantile. `OutOfMemory` may come at any step, and no other halt comes. Each interval is a job
-/// of its own, which enters the gate with its place among them before it works. For a certificate each lists the
-/// factors of its projection.
+/// `Dependent`, and `PivotLimit` and `Overflow` of the process are those of `process`; after it comes the first stop of an
+/// interval, with its column and its quantile. `OutOfMemory` may come at any step, and no other halt comes. Each interval is a job
+/// of its own, which enters the gate with its place among them before it works, and lists the factors of its projection.
 pub(crate) fn fit_input<R: Threads + Sync, G: Gate>(
     rt: &R,
     alloc: Global,
     job: &FitJob,
-    purpose: Purpose,
     input: Input,
     gate: &G,
 ) -> Result<Fit, Halt>
@@ -151,7 +144,7 @@ pub(crate) fn fit_input<R: Threads + Sync, G: Gate>(
     requires unpenalised { is_some job.now.rank ≡ true → length input.smoothing.rows ≡ 0 }
     ensures right { IfOk result (IsFitOf job.now input) }
     ensures printable { IfOk result (λ fit. IsPrintable (reports.Process fit)) }
-    ensures purpose { IfOk result (λ fit. All (IsFor purpose) fit.intervals) }
+    ensures listed { IfOk result (λ fit. All HasFactors fit.intervals) }
     ensures cause { IfErr result (HasProblemCause job.now (length input.design.rows) input.problem) }
 {
     let walked = match process(alloc, &input.problem, job.lo, job.hi, job.limit) {
@@ -160,14 +153,17 @@ pub(crate) fn fit_input<R: Threads + Sync, G: Gate>(
     };
     let data_rows = input.design.rows.as_slice().len() as u32;
     let segments = walked.segments.as_slice();
+    all_lowest_segments(segments);
     let scores = match all_scores(alloc, &input.problem, data_rows, segments) {
         Ok(scores) => scores,
-        Err(short) => return Err(short_halt(Place::Process, short, walked.trail)),
+        Err(OutOfMemory) => return Err(Halt::OutOfMemory),
     };
-    let intervals = match job_intervals(rt, alloc, job, purpose, &input.problem, gate) {
+    let intervals = match job_intervals(rt, alloc, job, &input.problem, gate) {
         Ok(intervals) => intervals,
         Err(halt) => return Err(halt),
     };
+    all_lowest_scores(scores.as_slice());
+    all_lowest_intervals(intervals.as_slice());
     match fit_of(input, walked, scores, intervals) {
         Ok(fit) => Ok(fit),
         Err(_) => Err(Halt::OutOfMemory),

@@ -1,12 +1,11 @@
 //! The halts of the solver.
 ghost use Rattle.std.specs.Prelude.{◌≡◌};
-ghost use Rattle.rq_engine.specs.Halts.{interval_halt as interval_halt_of, short_halt as short_halt_of, stop_halt as stop_halt_of};
+ghost use Rattle.rq_engine.specs.Halts.{interval_halt as interval_halt_of, stop_halt as stop_halt_of};
 
-use frac_core::{Frac128, List};
-use loss_model::{Short, Stop, Trail};
+use frac_core::Frac128;
+use loss_model::Stop;
 use rank_inversion::IntervalStop;
 use report_text::{Halt, Place, Refusal};
-use std::alloc::Global;
 
 /// The halt of a stop at a place.
 pub(crate) fn stop_halt(place: Place, stop: Stop<Frac128>) -> Halt
@@ -37,18 +36,4 @@ pub(crate) fn interval_halt(stopped: IntervalStop<Frac128>) -> Halt
         tau: stopped.asked.tau,
     };
     stop_halt(place, stopped.stop)
-}
-
-/// The halt at a place after the walk, whose trail is whole.
-pub(crate) fn short_halt(place: Place, short: Short<Frac128>, trail: Trail<Frac128>) -> Halt
-    ensures { result ≡ short_halt_of place short trail }
-{
-    match short {
-        Short::OutOfMemory => Halt::OutOfMemory,
-        Short::Overflow(spill) => Halt::Overflow {
-            place,
-            trail,
-            spill,
-        },
-    }
 }

@@ -24,14 +24,13 @@ use std::thread::Threads;
 ///   what its smooths add, or of the problem; for `test` also the first tested column that is missing, or that all are
 ///   tested; for `predict` also that there is nothing or too much to predict, or the first fault of a predicted record's
 ///   row; and for `check` the first fault of the bytes as a certificate. `Dependent` comes only where the columns of the
-///   problem are dependent, and `CertTooLong` exactly where the text of the certificate is longer than 2^26 bytes or its
-///   rows times its segments exceed 2^30.
+///   problem are dependent, and `CertTooLong` exactly where the text of the certificate is longer than 2^26 bytes, its
+///   rows times its segments exceed 2^30, or a number of it has more than 65,536 digits.
 /// - `Rejected` is the verdict of `check` on a certificate.
 /// - `PivotLimit` comes only where the lawful trail of the problem, or of a rank interval that its place names, has as
 ///   many pivots as the job's limit says and one more is left.
-/// - `Overflow` comes only where an operation overflows: of the solve at the low end, of the walk, of a rankscore, of the
-///   rank interval that its place names, of the start of the whole problem of a rank test, of the costs of a path, of a
-///   prediction or of the checker.
+/// - `Overflow` comes only where an operation overflows: of the solve at the low end, of the walk, of the rank interval that its place
+///   names, of the start of the whole problem of a rank test, or of the costs of a path.
 /// - `OutOfMemory` may come at any step.
 ///
 /// A stop of an interval is that of the first that stops, quantile by quantile as given and column by column within. The

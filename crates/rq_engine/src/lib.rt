@@ -22,9 +22,11 @@
 
 mod certify;
 mod check;
+mod digits;
 mod fit;
 mod halt;
 mod job;
+mod lowest;
 mod path;
 mod predict;
 mod process;

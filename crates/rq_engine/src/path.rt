@@ -10,6 +10,7 @@ ghost use Rattle.rq_engine.specs.PathHalts.{path_halt as path_halt_of};
 ghost use Rattle.rq_engine.specs.Answers.{HasPathFitCause, IsPathFitOfBytes};
 
 use crate::halt::stop_halt;
+use crate::lowest::all_lowest_segments;
 use design_matrix::Design;
 use frac_core::{Frac128, List};
 use lambda_path::laws::path_is_askable;
@@ -50,7 +51,7 @@ fn path_halt(alloc: Global, fault: PathFault) -> Halt
 }
 
 // The path with what is told of the design. It takes no memory.
-fn fit_of(design: Design, problem: Problem<Frac128>, process: Process<Frac128>) -> PathFit
+fn fit_of(design: Design, problem: Problem<Frac128>, process: Process) -> PathFit
     requires { length design.rows < 2 ^ 32 }
     ensures kept { result.kept ≡ length design.rows }
     ensures dropped { result.dropped ≡ design.dropped }
@@ -99,7 +100,10 @@ pub(crate) fn path_input(alloc: Global, job: &PathJob, plain: PlainInput) -> Res
     };
     let fit = &job.fit;
     match process(alloc, &problem, fit.lo, fit.hi, fit.limit) {
-        Ok(walked) => Ok(fit_of(input.design, problem, walked)),
+        Ok(walked) => {
+            all_lowest_segments(walked.segments.as_slice());
+            Ok(fit_of(input.design, problem, walked))
+        }
         Err(stop) => Err(stop_halt(Place::Process, stop)),
     }
 }

@@ -6,7 +6,6 @@ ghost use Rattle.rq_engine.specs.Asks.{IsFitAsk};
 ghost use Rattle.rq_engine.specs.Answers.{HasFitCause, IsFitOfBytes};
 
 use crate::fit::fit_input;
-use rank_inversion::Purpose;
 use report_text::{Fit, Halt};
 use rq_fan::Gate;
 use rq_input::read_input;
@@ -33,7 +32,7 @@ pub(crate) fn fit_bytes<R: Threads + Sync, G: Gate>(
     ensures cause { IfErr result (HasFitCause job.now ranked bytes.now) }
 {
     match read_input(alloc, job, ranked, bytes) {
-        Ok(input) => fit_input(rt, alloc, job, Purpose::Report, input, gate),
+        Ok(input) => fit_input(rt, alloc, job, input, gate),
         Err(halt) => Err(halt),
     }
 }

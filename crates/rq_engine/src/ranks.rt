@@ -8,7 +8,6 @@ ghost use Rattle.rq_engine.specs.Answers.{AreRanksOfBytes, HasFitCause};
 
 use crate::fit::fit_input;
 use frac_core::OutOfMemory;
-use rank_inversion::Purpose;
 use rankscores::wilcoxon;
 use ratio::all_lowest;
 use report_text::{Halt, RanksFit};
@@ -35,7 +34,7 @@ pub(crate) fn ranks_input<R: Threads + Sync, G: Gate>(
     ensures right { IfOk result (AreRanksOf job.now input) }
     ensures cause { IfErr result (HasProblemCause job.now (length input.design.rows) input.problem) }
 {
-    let fit = match fit_input(rt, alloc, job, Purpose::Report, input, gate) {
+    let fit = match fit_input(rt, alloc, job, input, gate) {
         Ok(fit) => fit,
         Err(halt) => return Err(halt),
     };

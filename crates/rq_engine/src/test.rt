@@ -16,6 +16,7 @@ ghost use Rattle.rq_engine.specs.Tested.{AreScoredBy, HasScoredCause, HasTestCau
 ghost use Rattle.rq_engine.specs.Answers.{HasTestFitCause, IsTestFitOfBytes};
 
 use crate::halt::stop_halt;
+use crate::lowest::all_lowest_segments;
 use basis_inverse::start;
 use design_matrix::Design;
 use frac_core::{Frac128, List, OutOfMemory};
@@ -33,7 +34,7 @@ use tau_process::process;
 // The process without the tested columns, and the Wilcoxon scores of the rows by it.
 #[derive(Drop)]
 struct ScoredProcess {
-    process: Process<Frac128>,
+    process: Process,
     wilcoxon: List<Ratio>,
 }
 
@@ -56,6 +57,7 @@ fn scored(alloc: Global, job: &TestJob, full: &Problem<Frac128>) -> Result<Score
         Ok(process) => process,
         Err(stop) => return Err(stop_halt(Place::Process, stop)),
     };
+    all_lowest_segments(process.segments.as_slice());
     match wilcoxon(alloc, &problem, &process) {
         Ok(wilcoxon) => Ok(ScoredProcess { process, wilcoxon }),
         Err(OutOfMemory) => Err(Halt::OutOfMemory),
@@ -63,12 +65,7 @@ fn scored(alloc: Global, job: &TestJob, full: &Problem<Frac128>) -> Result<Score
 }
 
 // The test with what is told of the design. It takes no memory.
-fn fit_of(
-    design: Design,
-    tested: List<u32>,
-    process: Process<Frac128>,
-    found: NestedStatistic,
-) -> TestFit
+fn fit_of(design: Design, tested: List<u32>, process: Process, found: NestedStatistic) -> TestFit
     requires { length design.rows < 2 ^ 32 }
     ensures kept { result.kept ≡ length design.rows }
     ensures dropped { result.dropped ≡ design.dropped }

@@ -10,13 +10,13 @@
 //!
 //! `rank_inversion` states and runs its jobs so:
 //! ```text
-//! impl<'a> Work for SolveJob<'a, Frac128> {
-//!     type Answer = Result<SolvedAt<Frac128>, IntervalStop<Frac128>>;
+//! impl<'a> Work for StartJob<'a, Frac128> {
+//!     type Answer = StartedAt<'a, Frac128>;
 //!
-//!     ghost answers = { λ job answer. IsSolveAnswer value range job.0 job.1 answer };
+//!     ghost answers = { λ job answer. IsStartedAt value job.0 job.1 answer };
 //!
-//!     fn work(self) -> Result<SolvedAt<Frac128>, IntervalStop<Frac128>> {
-//!         self.ranked.solve(self.alloc, self.tau)
+//!     fn work(self) -> StartedAt<'a, Frac128> {
+//!         self.ranked.start(self.alloc, self.tau)
 //!     }
 //! }
 //!

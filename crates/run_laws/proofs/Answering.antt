@@ -1,7 +1,6 @@
 -- Outcomes that are answers, told once of all jobs: what is left to show is why no other comes.
 use Rattle.std.specs.Prelude.{◌≡◌, ◌≢◌, ◌⊎◌, ℕ, List, Err}
 use Rattle.std.proofs.Common.{inl, inr}
-use Rattle.frac_core.specs.declared.frac128.Frac128.{Frac128}
 use Rattle.loss_model.specs.declared.process.Trail.{Trail}
 use Rattle.cert_checker.specs.declared.verdict.Rejection.{Rejection}
 use Rattle.lambda_path.specs.Laws.{PathHasCosts}
@@ -61,7 +60,7 @@ module _ (words : List (List ℕ)) (source source' : Stream) (reported : (report
 
 -- nor a limit
 module _ (words : List (List ℕ)) (source source' : Stream) (reported : (report : Report) → ¬ IsAnswered words source source' report)
-    (limited : (place : Place) (limit : ℕ) (trail : Trail Frac128) → ¬ IsHalted words source source' (halts.PivotLimit place limit trail)) where
+    (limited : (place : Place) (limit : ℕ) (trail : Trail) → ¬ IsHalted words source source' (halts.PivotLimit place limit trail)) where
   pub unfitted_with : (out out' err err' : Stream) (outcome : Outcome) → IsRun words source source' out out' err err' outcome → IsUnfitted outcome
   unfitted_with out out' err err' (Done report) run = reported report run.cause
   unfitted_with out out' err err' (PivotLimit place limit trail) run = limited place limit trail run.cause

@@ -11,9 +11,8 @@ use Rattle.rq_words.specs.declared.job.Job.TheVariants as jobs
 use Rattle.report_text.specs.declared.report.Report.{Report}
 use Rattle.report_text.specs.declared.report.Report.TheVariants as reports
 use Rattle.report_text.specs.declared.report.Refusal.TheVariants as refusals
-use Rattle.report_text.specs.declared.report.Place.TheVariants as places
 use Rattle.report_text.specs.declared.report.Halt.{Halt}
-use Rattle.report_text.specs.declared.report.Halt.TheVariants.{Refused, OutOfMemory, Overflow, Rejected}
+use Rattle.report_text.specs.declared.report.Halt.TheVariants.{Refused, OutOfMemory, Rejected}
 use Rattle.rq_engine.specs.Answers.{HasCause, IsRight}
 use Rattle.rq_engine.specs.Checks.{IsCertOf}
 use Rattle.run_laws.specs.Certificates.{IsUndecided}
@@ -43,7 +42,6 @@ module _ (same : SameContent) (bytes : List ℕ) (cert : Cert) (back : IsCertOf 
   pub undecided : (halt : Halt) → HasCause jobs.Check bytes halt → IsUndecided halt
   undecided (Refused (refusals.Certificate fault)) h = absurd (cc (sym h.1 ∙ back))
   undecided OutOfMemory h = tt
-  undecided (Overflow places.Check trail spill) h = absurd (h.1.untrue (subst (λ (c : Cert). AreTrue (tests c)) (sym (same_cert h.1.cert h.1.is)) sound))
   undecided (Rejected rejection) h =
       absurd (none_false (tests cert) rejection sound (subst (λ (c : Cert). IsFirstFalse (tests c) rejection) (same_cert h.cert h.is) h.first))
   undecided halt h = absurd h

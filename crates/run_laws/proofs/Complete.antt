@@ -32,7 +32,7 @@ use Rattle.rq_engine.specs.Answers.{IsRight, HasFitCause, HasCertifyCause, HasPr
 use Rattle.rq_engine.specs.Jobs.{IsJobOf, sample_fit}
 use Rattle.rq_cli.specs.Outcomes.{Stream, IsRun, IsAnswered, IsHalted, IsTooLong, Takes, WereRead}
 use Rattle.rq_cli.specs.declared.outcome.Outcome.{Outcome}
-use Rattle.rq_cli.specs.declared.outcome.Outcome.TheVariants.{Refused, PivotLimit, Rejected}
+use Rattle.rq_cli.specs.declared.outcome.Outcome.TheVariants.{PivotLimit}
 use Rattle.stop_laws.proofs.Needed.{dependent}
 use Rattle.run_laws.specs.Completeness.{NoneRose, IsWellFormed, IsAnswer, parts_of}
 use Rattle.run_laws.specs.NeededOutcomes.{IsFitJob, AskFit, WasInput, WasPosed, ReachesLimitAt, table_bytes}
@@ -160,13 +160,13 @@ module _ (lawful : PathHasCosts) (words : List (List ℕ)) (source source' : Str
 
 module _ (words : List (List ℕ)) (source source' : Stream) where
   -- the right process of an input that was read
-  pub record IsProcessRead (fit : FitJob) (input : Input) (q : Process Frac128) : Type 0 where
+  pub record IsProcessRead (fit : FitJob) (input : Input) (q : Process) : Type 0 where
     pub was : WasInput words source source' fit input
     pub shaped : IsWellShaped input.problem
     pub right : IsRightProcess value fit input.problem q
 
   abbrev ProcessRead : Type 0
-  ProcessRead = (fit : FitJob) × (input : Input) × (q : Process Frac128) × IsProcessRead fit input q
+  ProcessRead = (fit : FitJob) × (input : Input) × (q : Process) × IsProcessRead fit input q
 
   -- where the words ask for a fit, a right report is of such a process
   pub report_process : (first : FitJob) (kind : Bool) → AskFit words first kind → (report : Report) → IsAnswered words source source' report → ProcessRead
@@ -207,13 +207,13 @@ module _ (words : List (List ℕ)) (source source' : Stream) where
 
 module _ (lawful : PathHasCosts) (words : List (List ℕ)) (source source' : Stream) where
   -- what a trail that reaches a limit says of it
-  limit_below : (place : Place) (fit : FitJob) (problem : Problem Frac128) (limit : ℕ) (trail : Trail Frac128) → ReachesLimitAt place fit problem limit trail
+  limit_below : (place : Place) (fit : FitJob) (problem : Problem Frac128) (limit : ℕ) (trail : Trail) → ReachesLimitAt place fit problem limit trail
       → (limit ≡ fit.limit) × (limit < parts_of place * further_bases (sample value problem))
   limit_below places.Process fit problem limit trail h = (h.shown, h.below)
   limit_below (places.Interval column tau) fit problem limit trail h = (h.shown, h.below)
   limit_below other fit problem limit trail h = absurd h
 
-  pub ample : (out out' err err' : Stream) (place : Place) (limit : ℕ) (trail : Trail Frac128)
+  pub ample : (out out' err err' : Stream) (place : Place) (limit : ℕ) (trail : Trail)
       → ((fit : FitJob) (problem : Problem Frac128) → WasPosed words source source' fit problem → (parts_of place * further_bases (sample value problem)) ≤ fit.limit)
       → ¬ IsRun words source source' out out' err err' (PivotLimit place limit trail)
   ample out out' err err' place limit trail long run =

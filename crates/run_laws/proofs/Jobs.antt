@@ -1,6 +1,7 @@
 -- What is to be said of each job, in a table here alone: which of them fit a table as it is, and what a halt says of each.
 use Rattle.std.specs.Prelude.{◌≡◌, ◌⊎◌, ℕ, Bool, true, false, is_some, List, length}
 use Rattle.std.proofs.Common.{refl, sym, inl, inr, ◌∙◌}
+use Rattle.rational_laws.specs.Fraction.{Fraction}
 use Rattle.frac_core.specs.declared.frac128.Frac128.{Frac128}
 use Rattle.loss_model.specs.declared.process.Trail.{Trail}
 use Rattle.loss_model.specs.declared.spill.Spill.{Spill}
@@ -155,15 +156,15 @@ module _ (words : List (List ℕ)) (source source' : Stream) where
         by (jobs.Path job) read cause = NoPath (record { job = job; bytes = h.bytes; read = read; lacks = second_of cause (plain job.fit h.bytes) })
         by jobs.Check read cause = NoVerdict (record { bytes = h.bytes; read = read; cause = cause })
 
-  pub limit_lacks : (place : Place) (limit : ℕ) (trail : Trail Frac128) → IsHalted words source source' (PivotLimit place limit trail) → Lacks (PivotLimit place limit trail)
+  pub limit_lacks : (place : Place) (limit : ℕ) (trail : Trail) → IsHalted words source source' (PivotLimit place limit trail) → Lacks (PivotLimit place limit trail)
   limit_lacks place limit trail =
       lacks (PivotLimit place limit trail) (λ fit ranked bytes h. h.2.cause) (λ job bytes h. h.2.cause) (λ fit bytes h. h.2.cause) (λ fit bytes h. h.2.cause) (λ fit input h. h)
 
-  pub overflow_lacks : (place : Place) (trail : Trail Frac128) (spill : Spill Frac128) → IsHalted words source source' (Overflow place trail spill) → Lacks (Overflow place trail spill)
+  pub overflow_lacks : (place : Place) (trail : Trail) (spill : Spill Frac128) → IsHalted words source source' (Overflow place trail spill) → Lacks (Overflow place trail spill)
   overflow_lacks place trail spill =
       lacks (Overflow place trail spill) (λ fit ranked bytes h. h.2.cause) (λ job bytes h. h.2.cause) (λ fit bytes h. h.2.cause) (λ fit bytes h. h.2.cause) (λ fit input h. h)
 
-  pub dependence_lacks : (combination : List Frac128) → IsHalted words source source' (Refused (Dependent combination)) → Lacks (Refused (Dependent combination))
+  pub dependence_lacks : (combination : List Fraction) → IsHalted words source source' (Refused (Dependent combination)) → Lacks (Refused (Dependent combination))
   dependence_lacks combination =
       lacks (Refused (Dependent combination)) (λ fit ranked bytes h. h.2.cause) (λ job bytes h. h.2.cause) (λ fit bytes h. h.2.cause) (λ fit bytes h. h.2.cause) (λ fit input h. h)
 

@@ -1,13 +1,12 @@
 -- A printed path loses least at every lambda, and the sum of its absolute coefficients never rises.
-use Rattle.std.specs.Prelude.{◌≡◌, ℕ, zero, suc, ◌<◌, ◌≤◌, List, [], ◌∷◌, Option, Some, All, length, slice_get, get_or, pos}
+use Rattle.std.specs.Prelude.{◌≡◌, ℕ, zero, suc, ◌<◌, List, [], ◌∷◌, Option, Some, All, length, slice_get, get_or, pos}
 use Rattle.std.specs.Option.{option_map_or}
 use Rattle.std.proofs.Common.{arith, subst}
-use Rattle.rational_laws.specs.Fraction.{rational}
+use Rattle.rational_laws.specs.Fraction.{Fraction, rational}
 use Rattle.rational_laws.specs.Rational.{ℚ, whole, ◌≤ℚ◌}
-use Rattle.frac_core.specs.declared.frac128.Frac128.{Frac128}
 use Rattle.frac_core.specs.Values.{exact, value}
 use Rattle.loss_model.specs.declared.process.Segment.{Segment}
-use Rattle.loss_model.specs.Problem.{sample, value_at}
+use Rattle.loss_model.specs.Problem.{sample, number_at}
 use Rattle.loss_model.specs.Sample.{Sample, loss, Minimises}
 use Rattle.loss_model.specs.Segment.{of_segment, segments_of}
 use Rattle.lambda_path.specs.Laws.{PathLoss, SumNeverRises}
@@ -40,15 +39,15 @@ module _ (same : PathLoss) (never : SumNeverRises) (job : PathJob) (plain : Plai
   least : All (LosesLeast job plain) fit.process.segments
   least k d l lambda other positive low high =
       let s = get_or fit.process.segments k d in
-      subst (λ x. x ≤ℚ loss_of job plain (rational lambda) other) (same_loss (rational lambda) (value_at value s.vertex.coef))
-      (subst (λ x. loss q (rational lambda) (value_at value s.vertex.coef) ≤ℚ x) (same_loss (rational lambda) other) (((of.process.segments k d l).within lambda positive low high).minimises other))
+      subst (λ x. x ≤ℚ loss_of job plain (rational lambda) other) (same_loss (rational lambda) (number_at s.vertex.coef))
+      (subst (λ x. loss q (rational lambda) (number_at s.vertex.coef) ≤ℚ x) (same_loss (rational lambda) other) (((of.process.segments k d l).within lambda positive low high).minimises other))
 
   -- what holds at an end of the segment at j
-  module _ (end : Segment Frac128 → Frac128) (right : (s : Segment Frac128) → IsRightSegment value fit.problem s → Minimises q (rational (value (end s))) (value_at value s.vertex.coef)) where
-    abbrev MinimisesOf : Option (Segment Frac128) → Type 0
-    MinimisesOf o = Minimises q (option_map_or (λ s. rational (value (end s))) o (whole (pos 0))) (λ k. option_map_or (λ s. value_at value s.vertex.coef k) o (whole (pos 0)))
+  module _ (end : Segment → Fraction) (right : (s : Segment) → IsRightSegment value fit.problem s → Minimises q (rational (end s)) (number_at s.vertex.coef)) where
+    abbrev MinimisesOf : Option Segment → Type 0
+    MinimisesOf o = Minimises q (option_map_or (λ s. rational (end s)) o (whole (pos 0))) (λ k. option_map_or (λ s. number_at s.vertex.coef k) o (whole (pos 0)))
 
-    at_end : (j : ℕ) → j < length fit.process.segments → Minimises q (of_segment fit.process.segments (λ s. rational (value (end s))) j) (coefficients job plain fit.process.segments j)
+    at_end : (j : ℕ) → j < length fit.process.segments → Minimises q (of_segment fit.process.segments (λ s. rational (end s)) j) (coefficients job plain fit.process.segments j)
     at_end j l = at_place (IsRightSegment value fit.problem) MinimisesOf right fit.process.segments of.process.segments j l
 
   pub least_path : IsLeastPath job plain fit

@@ -1,20 +1,20 @@
 -- The text of a certificate has 64 bytes for each of its segments, and more, if each has a coefficient and a dual value.
-use Rattle.std.proofs.Common.{◌≡◌, ℕ, suc, ◌+◌, ◌*◌, ◌^◌, ◌≤◌, ◌<◌, ◌/◌, ◌%◌, ◌==◌, Bool, true, false, cond, nat_lt, ℤ, pos, negsuc}
-use Rattle.std.proofs.Common.{unsigned_abs, List, [], ◌∷◌, ◌++◌, All, Option, Some, None, codes, decimal, length, map, flat_map, if◌then◌else◌, arith, lit<, refl}
+use Rattle.std.proofs.Common.{◌≡◌, ℕ, zero, suc, ◌+◌, ◌*◌, ◌≤◌, ◌/◌, ◌%◌, ◌==◌, Bool, true, false, cond, nat_lt, ℤ, pos, int_lt}
+use Rattle.std.proofs.Common.{unsigned_abs, List, [], ◌∷◌, ◌++◌, All, Option, Some, None, codes, length, map, flat_map, if◌then◌else◌, arith, refl, ap, ◌∙◌}
 use Rattle.std.specs.Char.{digit_char}
-use Rattle.std.specs.Fmt.{signed_decimal}
-use Rattle.std.proofs.lemmas.Fmt.{decimal_is_IsNumeral_wide}
 use Rattle.std.proofs.lemmas.List.{length-append}
 use Rattle.json.specs.Print.{escape_byte, escape_letter, quoted}
-use Rattle.serde_json.specs.Data.{Data, Items, item, no_items, Members, member, no_members, array, number, unsigned, string}
+use Rattle.serde_json.specs.Data.{Data, Items, item, no_items, Members, member, no_members, number, unsigned, string}
 use Rattle.serde_json.specs.View.{items_of}
 use Rattle.serde_json.specs.Written.{comma_if, compact_text, items_text, members_text}
-use Rattle.frac_core.specs.NumberText.{number_text_of}
-use Rattle.frac_core.specs.declared.frac128.Frac128.{Frac128}
+use Rattle.rational_laws.specs.Fraction.{Fraction}
+use Rattle.natural.specs.Decimal.{decimal_text, glyphs}
+use Rattle.natural.proofs.Digits.{glyphs_step, text-glyphs, text-zero}
+use Rattle.ratio.specs.Text.{integer_text, ratio_text}
 use Rattle.loss_model.specs.declared.process.Segment.{Segment}
 use Rattle.cert_text.specs.Chains.{is_chained, moves_between}
 use Rattle.cert_text.specs.Contents.{content}
-use Rattle.cert_text.specs.Trees.{cert_text, cert_tree, fraction_tree, fractions_tree, interval_tree, later_tree, layout, linked_tree, linked_trees, list_tree, move_tree, row_tree, segment_tree, segments_tree, sides_tree, version}
+use Rattle.cert_text.specs.Trees.{cert_text, cert_tree, fraction_tree, interval_tree, later_tree, layout, linked_tree, linked_trees, list_tree, move_tree, ratio_tree, ratios_tree, row_tree, segment_tree, segments_tree, sides_tree, version}
 use Rattle.cert_text.specs.declared.cert.Cert.{Cert}
 
 -- ---- strings
@@ -38,25 +38,32 @@ quoted_long s = omega (arith, escape_long s, length-append (flat_map escape_byte
 
 -- ---- numbers
 
-whole_long : (n : ℤ) → unsigned_abs n < 2 ^ 127 → 1 ≤ length (signed_decimal n)
-whole_long (pos n) small =
-    let most : 2 ^ 127 < 10 ^ 64 = lit< tt in
-    let digits = decimal_is_IsNumeral_wide n (omega (arith, small, most)) in
-    omega (arith, digits.0.0)
-whole_long (negsuc n) small = omega arith
+digits_long : (n : ℕ) → 1 ≤ length (decimal_text n)
+digits_long zero = omega (arith, ap length (text-zero 0 refl))
+digits_long (suc n) =
+    let last = text-glyphs (suc n) (omega arith) ∙ glyphs_step (suc n) (omega arith) in
+    omega (arith, ap length last, length-append (glyphs (suc n / 10)) ((48 + suc n % 10) ∷ []))
+
+whole_long : (n : ℤ) → 1 ≤ length (integer_text n)
+unfolding integer_text
+whole_long n = by (int_lt n (pos 0))
+  where
+    by : (b : Bool) → 1 ≤ length (if b then 45 ∷ decimal_text (unsigned_abs n) else decimal_text (unsigned_abs n))
+    by true = omega arith
+    by false = digits_long (unsigned_abs n)
 
 -- the text of a number isn't empty
-number_long : (x : Frac128) → 3 ≤ length (compact_text (fraction_tree x))
-unfolding number_text_of
+number_long : (x : Fraction) → 3 ≤ length (compact_text (ratio_tree x))
+unfolding ratio_text
 number_long x = by (x.den == 1)
   where
-    over : 1 ≤ length (signed_decimal x.num)
-    over = whole_long x.num (omega (arith, x.within.num_fits))
+    over : 1 ≤ length (integer_text x.num)
+    over = whole_long x.num
 
-    by : (b : Bool) → 3 ≤ length (quoted (if b then signed_decimal x.num else (signed_decimal x.num ++ 47 ∷ decimal x.den)))
-    by true = omega (arith, over, quoted_long (signed_decimal x.num))
+    by : (b : Bool) → 3 ≤ length (quoted (if b then integer_text x.num else (integer_text x.num ++ 47 ∷ decimal_text x.den)))
+    by true = omega (arith, over, quoted_long (integer_text x.num))
     by false =
-        omega (arith, over, quoted_long (signed_decimal x.num ++ 47 ∷ decimal x.den), length-append (signed_decimal x.num) (47 ∷ decimal x.den))
+        omega (arith, over, quoted_long (integer_text x.num ++ 47 ∷ decimal_text x.den), length-append (integer_text x.num) (47 ∷ decimal_text x.den))
 
 -- a list of items ends with a bracket
 items_end : (later : Bool) (ds : Items) → 1 ≤ length (items_text later ds)
@@ -65,11 +72,11 @@ items_end later (item d ds) =
     let behind = items_text true ds in
     omega (arith, items_end true ds, length-append (compact_text d) behind, length-append (comma_if later) (compact_text d ++ behind))
 
-numbers_long : (xs : List Frac128) → 1 ≤ length xs → 5 ≤ length (compact_text (fractions_tree xs))
+numbers_long : (xs : List Fraction) → 1 ≤ length xs → 5 ≤ length (compact_text (ratios_tree xs))
 numbers_long [] some = absurd (omega (arith, some))
 numbers_long (x ∷ xs) some =
-    let others = items_of (map fraction_tree xs) in
-    omega (arith, number_long x, items_end true others, length-append (compact_text (fraction_tree x)) (items_text true others))
+    let others = items_of (map ratio_tree xs) in
+    omega (arith, number_long x, items_end true others, length-append (compact_text (ratio_tree x)) (items_text true others))
 
 -- ---- objects
 
@@ -87,7 +94,7 @@ member_long later k d ms =
     )
 
 -- a segment has eight keys of 43 bytes together
-segment_long : (s : Segment Frac128) → 64 ≤ length (compact_text (segment_tree s))
+segment_long : (s : Segment) → 64 ≤ length (compact_text (segment_tree s))
 unfolding segment_tree
 segment_long s =
     let basic_hi : length (codes "basic_hi") ≡ 8 = refl in
@@ -99,12 +106,12 @@ segment_long s =
     let loss_lo : length (codes "loss_lo") ≡ 7 = refl in
     let sides : length (codes "sides") ≡ 5 = refl in
     let m7 = member (codes "sides") (sides_tree s.vertex.sides) no_members in
-    let m6 = member (codes "loss_lo") (fraction_tree s.loss_lo) m7 in
-    let m5 = member (codes "loss_hi") (fraction_tree s.loss_hi) m6 in
-    let m4 = member (codes "lo") (fraction_tree s.lo) m5 in
-    let m3 = member (codes "hi") (fraction_tree s.hi) m4 in
-    let m2 = member (codes "coef") (fractions_tree s.vertex.coef) m3 in
-    let m1 = member (codes "basic_lo") (fractions_tree s.basic_lo) m2 in
+    let m6 = member (codes "loss_lo") (ratio_tree s.loss_lo) m7 in
+    let m5 = member (codes "loss_hi") (ratio_tree s.loss_hi) m6 in
+    let m4 = member (codes "lo") (ratio_tree s.lo) m5 in
+    let m3 = member (codes "hi") (ratio_tree s.hi) m4 in
+    let m2 = member (codes "coef") (ratios_tree s.vertex.coef) m3 in
+    let m1 = member (codes "basic_lo") (ratios_tree s.basic_lo) m2 in
     omega (
       arith,
       basic_hi,
@@ -115,18 +122,18 @@ segment_long s =
       loss_hi,
       loss_lo,
       sides,
-      member_long false (codes "basic_hi") (fractions_tree s.basic_hi) m1,
-      member_long true (codes "basic_lo") (fractions_tree s.basic_lo) m2,
-      member_long true (codes "coef") (fractions_tree s.vertex.coef) m3,
-      member_long true (codes "hi") (fraction_tree s.hi) m4,
-      member_long true (codes "lo") (fraction_tree s.lo) m5,
-      member_long true (codes "loss_hi") (fraction_tree s.loss_hi) m6,
-      member_long true (codes "loss_lo") (fraction_tree s.loss_lo) m7,
+      member_long false (codes "basic_hi") (ratios_tree s.basic_hi) m1,
+      member_long true (codes "basic_lo") (ratios_tree s.basic_lo) m2,
+      member_long true (codes "coef") (ratios_tree s.vertex.coef) m3,
+      member_long true (codes "hi") (ratio_tree s.hi) m4,
+      member_long true (codes "lo") (ratio_tree s.lo) m5,
+      member_long true (codes "loss_hi") (ratio_tree s.loss_hi) m6,
+      member_long true (codes "loss_lo") (ratio_tree s.loss_lo) m7,
       member_long true (codes "sides") (sides_tree s.vertex.sides) no_members,
     )
 
 -- one that says only what changes has five keys of 26 bytes together, and two lists that aren't empty
-later_long : (before s : Segment Frac128) → 1 ≤ length s.basic_hi → 1 ≤ length s.vertex.coef → 64 ≤ length (compact_text (later_tree before s))
+later_long : (before s : Segment) → 1 ≤ length s.basic_hi → 1 ≤ length s.vertex.coef → 64 ≤ length (compact_text (later_tree before s))
 unfolding later_tree
 later_long before s valued some =
     let comma : length (comma_if true) ≡ 1 = refl in
@@ -137,9 +144,9 @@ later_long before s valued some =
     let moves : length (codes "moves") ≡ 5 = refl in
     let moved = list_tree move_tree (moves_between before s) in
     let m4 = member (codes "moves") moved no_members in
-    let m3 = member (codes "loss_hi") (fraction_tree s.loss_hi) m4 in
-    let m2 = member (codes "hi") (fraction_tree s.hi) m3 in
-    let m1 = member (codes "coef") (fractions_tree s.vertex.coef) m2 in
+    let m3 = member (codes "loss_hi") (ratio_tree s.loss_hi) m4 in
+    let m2 = member (codes "hi") (ratio_tree s.hi) m3 in
+    let m1 = member (codes "coef") (ratios_tree s.vertex.coef) m2 in
     omega (
       arith,
       comma,
@@ -153,16 +160,16 @@ later_long before s valued some =
       number_long s.hi,
       number_long s.loss_hi,
       items_end false (items_of (map move_tree (moves_between before s))),
-      member_long false (codes "basic_hi") (fractions_tree s.basic_hi) m1,
-      member_long true (codes "coef") (fractions_tree s.vertex.coef) m2,
-      member_long true (codes "hi") (fraction_tree s.hi) m3,
-      member_long true (codes "loss_hi") (fraction_tree s.loss_hi) m4,
+      member_long false (codes "basic_hi") (ratios_tree s.basic_hi) m1,
+      member_long true (codes "coef") (ratios_tree s.vertex.coef) m2,
+      member_long true (codes "hi") (ratio_tree s.hi) m3,
+      member_long true (codes "loss_hi") (ratio_tree s.loss_hi) m4,
       member_long true (codes "moves") moved no_members,
     )
 
 -- ---- lists
 
-items_long : (later : Bool) (xs : List (Segment Frac128)) → 64 * length xs ≤ length (items_text later (items_of (map segment_tree xs)))
+items_long : (later : Bool) (xs : List Segment) → 64 * length xs ≤ length (items_text later (items_of (map segment_tree xs)))
 items_long later [] = omega arith
 items_long later (x ∷ xs) =
     let d = compact_text (segment_tree x) in
@@ -170,14 +177,14 @@ items_long later (x ∷ xs) =
     omega (arith, segment_long x, items_long true xs, length-append d behind, length-append (comma_if later) (d ++ behind))
 
 -- a segment has a dual value at its high end, and a coefficient
-abbrev pub HasEntries : Segment Frac128 → Type 0
+abbrev pub HasEntries : Segment → Type 0
 HasEntries s = (1 ≤ length s.basic_hi) × (1 ≤ length s.vertex.coef)
 
-linked_long : (before : Option (Segment Frac128)) (s : Segment Frac128) → HasEntries s → 64 ≤ length (compact_text (linked_tree before s))
+linked_long : (before : Option Segment) (s : Segment) → HasEntries s → 64 ≤ length (compact_text (linked_tree before s))
 linked_long None s h = segment_long s
 linked_long (Some before) s h = later_long before s h.0 h.1
 
-chain_long : (later : Bool) (before : Option (Segment Frac128)) (ss : List (Segment Frac128)) → All HasEntries ss → 64 * length ss ≤ length (items_text later (items_of (linked_trees before ss)))
+chain_long : (later : Bool) (before : Option Segment) (ss : List Segment) → All HasEntries ss → 64 * length ss ≤ length (items_text later (items_of (linked_trees before ss)))
 chain_long later before [] h = omega arith
 chain_long later before (s ∷ ss) h =
     let d = compact_text (linked_tree before s) in
@@ -190,17 +197,14 @@ chain_long later before (s ∷ ss) h =
       length-append (comma_if later) (d ++ behind),
     )
 
-segments_long : (c : Cert) (ss : List (Segment Frac128)) → All HasEntries ss → 64 * length ss ≤ length (compact_text (segments_tree (layout c) ss))
-segments_long c ss h = by (is_chained (content c)) refl
-  where
-    by : (b : Bool) → is_chained (content c) ≡ b → 64 * length ss ≤ length (compact_text (segments_tree (layout c) ss))
-    by true e = let long : 64 * length ss ≤ length (compact_text (array (items_of (linked_trees None ss)))) = omega (arith, chain_long false None ss h) in rw e long
-    by false e = let long : 64 * length ss ≤ length (compact_text (list_tree segment_tree ss)) = omega (arith, items_long false ss) in rw e long
+segments_long : (chained : Bool) (ss : List Segment) → All HasEntries ss → 64 * length ss ≤ length (compact_text (segments_tree chained ss))
+segments_long true ss h = omega (arith, chain_long false None ss h)
+segments_long false ss h = omega (arith, items_long false ss)
 
 pub cert_long : (c : Cert) → All HasEntries c.segments → 64 * length c.segments ≤ length (cert_text c)
 unfolding cert_tree
 cert_long c h =
-    let laid_out = segments_tree (layout c) c.segments in
+    let laid_out = segments_tree (is_chained (content c)) c.segments in
     let m7 = member (codes "version") (number (unsigned (version (layout c)))) no_members in
     let m6 = member (codes "segments") laid_out m7 in
     let m5 = member (codes "rows") (list_tree row_tree c.problem.rows) m6 in
@@ -210,7 +214,7 @@ cert_long c h =
     let m1 = member (codes "hi") (fraction_tree c.hi) m2 in
     omega (
       arith,
-      segments_long c c.segments h,
+      segments_long (is_chained (content c)) c.segments h,
       member_long false (codes "columns") (number (unsigned c.problem.columns)) m1,
       member_long true (codes "hi") (fraction_tree c.hi) m2,
       member_long true (codes "intervals") (list_tree interval_tree c.intervals) m3,

@@ -21,12 +21,12 @@ mod Passing
 mod Ranked
 mod All
 mod Lengths
+mod Readable
 mod Checking
 mod Written
 -- outcomes of a run
 mod AskedInputs
 mod AskedIntervals
-mod Spilled
 mod Jobs
 mod Needed
 mod Answering

@@ -1,7 +1,7 @@
 -- What stops a run was needed.
-use Rattle.std.specs.Prelude.{◌≡◌, ℕ, ◌*◌, Bool, List}
+use Rattle.std.specs.Prelude.{◌≡◌, ℕ, ◌*◌, Bool, List, [], ◌∷◌}
 use Rattle.std.proofs.Common.{refl, sym, subst, inl, inr}
-use Rattle.rational_laws.specs.Fraction.{rational}
+use Rattle.rational_laws.specs.Fraction.{Fraction, rational}
 use Rattle.frac_core.specs.declared.frac128.Frac128.{Frac128}
 use Rattle.frac_core.specs.Values.{value}
 use Rattle.loss_model.specs.declared.problem.Problem.{Problem}
@@ -14,15 +14,16 @@ use Rattle.pivot_model.specs.Duals.{HasCosts}
 use Rattle.walk_model.specs.WalkTrails.{ReachesProcessLimit, ReachesIntervalLimit}
 use Rattle.pivot_laws.specs.BoundLaws.{further_bases}
 use Rattle.stop_laws.proofs.Needed.{below, dependent}
-use Rattle.stop_laws.proofs.Spilled.{of_process, start}
+use Rattle.stop_laws.specs.NeededStops.{DoesOverflow}
+use Rattle.stop_laws.proofs.Spilled.{of_process, operation, start}
 use Rattle.stop_laws.proofs.IntervalsNeeded.{interval_needed}
 use Rattle.stop_laws.proofs.IntervalsSpilled.{of_interval}
 use Rattle.pivot_laws.proofs.Bounds.{process_within}
 use Rattle.lambda_path.specs.Laws.{PathHasCosts}
 use Rattle.nested_test.specs.Restricted.{restricted_problem}
 use Rattle.rank_inversion.specs.Stops.{IsBound}
+use Rattle.tv_penalty.specs.Operations.{OverflowsFirst, SitedOperation}
 use Rattle.rq_words.specs.declared.job.FitJob.{FitJob}
-use Rattle.rq_words.specs.declared.job.Job.{Job}
 use Rattle.rq_words.specs.declared.job.Job.TheVariants as jobs
 use Rattle.rq_words.specs.declared.job.PathJob.{PathJob}
 use Rattle.rq_words.specs.declared.job.TestJob.{TestJob}
@@ -40,27 +41,26 @@ use Rattle.rq_engine.proofs.Testing.{data_stays, input_data, restricted_low}
 use Rattle.rq_engine.specs.Answers.{LacksFit, LacksPathFit, LacksPredictFit, LacksTestFit}
 use Rattle.rq_engine.proofs.Asked.{asked_job}
 use Rattle.rq_cli.specs.Outcomes.{Stream, IsHalted, WereRead}
-use Rattle.run_laws.specs.NeededOutcomes.{IsLimitedAt, OverflowsAt, ReachesItsIntervalLimit, ReachesItsLimit, ReachesLimitAt, WasInput, WasPosed, WasWhole}
+use Rattle.run_laws.specs.NeededOutcomes.{IsLimitedAt, ReachesItsIntervalLimit, ReachesItsLimit, ReachesLimitAt, WasInput, WasPosed, WasWhole}
 use Rattle.rq_input.proofs.PlainInputs.{plain_rows}
 use Rattle.rq_input.proofs.TestedInputs.{ranked_rows}
 use Rattle.run_laws.proofs.AskedIntervals.{asked_there, critical_there, inner_costs}
 use Rattle.run_laws.proofs.Jobs.{Lacks, NoFit, NoPath, NoPredictions, NoTest, NoVerdict, dependence_lacks, limit_lacks, overflow_lacks}
-use Rattle.run_laws.proofs.Spilled.{of_first, of_fit, of_row, of_scored}
 
 -- ---- a limit
 
-reached_process : (fit : FitJob) (problem : Problem Frac128) (limit : ℕ) (trail : Trail Frac128) → HasCosts (sample value problem) (rational (value fit.lo)) → limit ≡ fit.limit
-    → ReachesProcessLimit value (sample value problem) (rational (value fit.lo)) (rational (value fit.hi)) fit.limit trail → ReachesItsLimit fit problem limit trail
+reached_process : (fit : FitJob) (problem : Problem Frac128) (limit : ℕ) (trail : Trail) → HasCosts (sample value problem) (rational (value fit.lo)) → limit ≡ fit.limit
+    → ReachesProcessLimit (sample value problem) (rational (value fit.lo)) (rational (value fit.hi)) fit.limit trail → ReachesItsLimit fit problem limit trail
 reached_process fit problem limit trail costs shown h =
-    let there = subst (λ n. ReachesProcessLimit value (sample value problem) (rational (value fit.lo)) (rational (value fit.hi)) n trail) (sym shown) h in
+    let there = subst (λ n. ReachesProcessLimit (sample value problem) (rational (value fit.lo)) (rational (value fit.hi)) n trail) (sym shown) h in
     record {
       shown = shown;
       reached = there;
-      below = below (2 * further_bases (sample value problem)) limit (ReachesProcessLimit value (sample value problem) (rational (value fit.lo)) (rational (value fit.hi)) limit trail) there
-          (λ long. process_within value (sample value problem) (rational (value fit.lo)) (rational (value fit.hi)) limit trail costs long);
+      below = below (2 * further_bases (sample value problem)) limit (ReachesProcessLimit (sample value problem) (rational (value fit.lo)) (rational (value fit.hi)) limit trail) there
+          (λ long. process_within (sample value problem) (rational (value fit.lo)) (rational (value fit.hi)) limit trail costs long);
     }
 
-reached_interval : (fit : FitJob) (input : Input) (column : ℕ) (tau : Frac128) (limit : ℕ) (trail : Trail Frac128) → IsFitAsk fit → HasRows input → HasStoppedInterval fit input.problem column tau (stops.PivotLimit limit trail)
+reached_interval : (fit : FitJob) (input : Input) (column : ℕ) (tau : Frac128) (limit : ℕ) (trail : Trail) → IsFitAsk fit → HasRows input → HasStoppedInterval fit input.problem column tau (stops.PivotLimit limit trail)
     → ReachesItsIntervalLimit fit input.problem column tau limit trail
 reached_interval fit input column tau limit trail ask rows h =
     let cause = h.1.cause in
@@ -72,21 +72,29 @@ reached_interval fit input column tau limit trail ask rows h =
       asked = critical.1;
       bound = cause.1.0;
       critical = subst (λ (crit : Frac128). IsBound value input.problem column (rational (value tau)) (rational (value crit)) cause.1.0) critical.2 cause.1.1;
-      reached = subst (λ n. ReachesIntervalLimit value (sample value input.problem) (rational (value tau)) column cause.1.0 n trail) (sym cause.0) cause.1.2;
+      reached = subst (λ n. ReachesIntervalLimit (sample value input.problem) (rational (value tau)) column cause.1.0 n trail) (sym cause.0) cause.1.2;
       below =
           interval_needed value most input.problem column (rational (value tau)) (rational (value h.0)) fit.limit (stops.PivotLimit limit trail) (inner_costs input (rational (value tau)) asked.1 rows) asked.0 cause;
     }
 
-reached : (fit : FitJob) (ranked : Bool) (bytes : List ℕ) (place : Place) (limit : ℕ) (trail : Trail Frac128) → IsFitAsk fit → (h : LacksFit fit ranked bytes (PivotLimit place limit trail))
+reached : (fit : FitJob) (ranked : Bool) (bytes : List ℕ) (place : Place) (limit : ℕ) (trail : Trail) → IsFitAsk fit → (h : LacksFit fit ranked bytes (PivotLimit place limit trail))
     → ReachesLimitAt place fit h.input.problem limit trail
 reached fit ranked bytes places.Process limit trail ask h = reached_process fit h.input.problem limit trail (low_costs fit ask h.input h.rows) h.cause.0 h.cause.1
 reached fit ranked bytes (places.Interval column tau) limit trail ask h = reached_interval fit h.input column tau limit trail ask h.rows h.cause.stopped
 reached fit ranked bytes other limit trail ask h = absurd h.cause
 
-predict_reached : (fit : FitJob) (bytes : List ℕ) (place : Place) (limit : ℕ) (trail : Trail Frac128) → IsFitAsk fit → (h : LacksPredictFit fit bytes (PivotLimit place limit trail))
+predict_reached : (fit : FitJob) (bytes : List ℕ) (place : Place) (limit : ℕ) (trail : Trail) → IsFitAsk fit → (h : LacksPredictFit fit bytes (PivotLimit place limit trail))
     → ReachesLimitAt place fit h.asked.input.problem limit trail
 predict_reached fit bytes places.Process limit trail ask h = reached_process fit h.asked.input.problem limit trail (low_costs fit ask h.asked.input h.rows) h.cause.0 h.cause.1
 predict_reached fit bytes other limit trail ask h = absurd h.cause
+
+-- ---- the costs of a path
+
+-- the first of their operations that overflows
+of_first : (operations : List SitedOperation) (s : Spill Frac128) → OverflowsFirst operations s → DoesOverflow value most s
+of_first [] s h = absurd h
+of_first (o ∷ os) s (inl h) = operation value most s h
+of_first (o ∷ os) s (inr h) = of_first os s h.1
 
 -- a job and its bytes, of which the input was read
 module _ (lawful : PathHasCosts) (words : List (List ℕ)) (source source' : Stream) where
@@ -98,7 +106,7 @@ module _ (lawful : PathHasCosts) (words : List (List ℕ)) (source source' : Str
   posed fit input was = inl (input, was, refl)
 
   -- so is that of an input without tested columns
-  test_limited : (job : TestJob) (bytes : List ℕ) → WereRead words source source' (jobs.Test job) bytes → (place : Place) (limit : ℕ) (trail : Trail Frac128) → LacksTestFit job bytes (PivotLimit place limit trail)
+  test_limited : (job : TestJob) (bytes : List ℕ) → WereRead words source source' (jobs.Test job) bytes → (place : Place) (limit : ℕ) (trail : Trail) → LacksTestFit job bytes (PivotLimit place limit trail)
       → IsLimitedAt words source source' place limit trail
   test_limited job bytes read places.Process limit trail h =
       let q = restricted_problem job.tested h.input.problem in
@@ -113,7 +121,7 @@ module _ (lawful : PathHasCosts) (words : List (List ℕ)) (source source' : Str
   test_limited job bytes read other limit trail h = absurd h.cause.1
 
   -- so is that of a path
-  path_limited : (job : PathJob) (bytes : List ℕ) → WereRead words source source' (jobs.Path job) bytes → (place : Place) (limit : ℕ) (trail : Trail Frac128) → LacksPathFit job bytes (PivotLimit place limit trail)
+  path_limited : (job : PathJob) (bytes : List ℕ) → WereRead words source source' (jobs.Path job) bytes → (place : Place) (limit : ℕ) (trail : Trail) → LacksPathFit job bytes (PivotLimit place limit trail)
       → IsLimitedAt words source source' place limit trail
   path_limited job bytes read places.Process limit trail h =
       let lacks = h.cause.1 in
@@ -128,7 +136,7 @@ module _ (lawful : PathHasCosts) (words : List (List ℕ)) (source source' : Str
   path_limited job bytes read (places.Interval column tau) limit trail h = absurd h.cause
   path_limited job bytes read other limit trail h = absurd h.cause
 
-  pub limit_needed : (place : Place) (limit : ℕ) (trail : Trail Frac128) → IsHalted words source source' (PivotLimit place limit trail) → IsLimitedAt words source source' place limit trail
+  pub limit_needed : (place : Place) (limit : ℕ) (trail : Trail) → IsHalted words source source' (PivotLimit place limit trail) → IsLimitedAt words source source' place limit trail
   limit_needed place limit trail h = by (limit_lacks words source source' place limit trail h)
     where
       by : Lacks words source source' (PivotLimit place limit trail) → IsLimitedAt words source source' place limit trail
@@ -140,7 +148,7 @@ module _ (lawful : PathHasCosts) (words : List (List ℕ)) (source source' : Str
 
   -- ---- dependent columns
 
-  pub dependence_needed : (combination : List Frac128) → IsHalted words source source' (Refused (Dependent combination)) → IsDependentInput
+  pub dependence_needed : (combination : List Fraction) → IsHalted words source source' (Refused (Dependent combination)) → IsDependentInput
   dependence_needed combination h = by (dependence_lacks words source source' combination h)
     where
       by : Lacks words source source' (Refused (Dependent combination)) → IsDependentInput
@@ -153,19 +161,17 @@ module _ (lawful : PathHasCosts) (words : List (List ℕ)) (source source' : Str
 
   -- ---- an overflow
 
-  pub overflow_needed : (place : Place) (trail : Trail Frac128) (spill : Spill Frac128) → IsHalted words source source' (Overflow place trail spill) → OverflowsAt place spill
+  pub overflow_needed : (place : Place) (trail : Trail) (spill : Spill Frac128) → IsHalted words source source' (Overflow place trail spill) → DoesOverflow value most spill
   overflow_needed place trail spill h = by place (overflow_lacks words source source' place trail spill h)
     where
-      by : (place : Place) → Lacks words source source' (Overflow place trail spill) → OverflowsAt place spill
-      by places.Check lacks = tt
-      by places.Process (NoFit h) = of_fit value most spill h.lacks.input.problem _ _ _ _ trail h.lacks.cause
+      by : (place : Place) → Lacks words source source' (Overflow place trail spill) → DoesOverflow value most spill
+      by places.Process (NoFit h) = of_process value most spill h.lacks.input.problem _ _ _ trail h.lacks.cause
       by places.Process (NoPredictions h) = of_process value most spill h.lacks.asked.input.problem _ _ _ trail h.lacks.cause
-      by places.Process (NoTest h) = of_scored h.job.fit (restricted_problem h.job.tested h.lacks.input.problem) trail spill h.lacks.cause
+      by places.Process (NoTest h) = of_process value most spill (restricted_problem h.job.tested h.lacks.input.problem) _ _ _ trail h.lacks.cause
       by places.Process (NoPath h) = of_process value most spill h.lacks.cause.problem _ _ _ trail h.lacks.cause.cause
       by (places.Interval column tau) (NoFit h) =
           of_interval value most spill h.lacks.input.problem column (rational (value tau)) (rational (value h.lacks.cause.stopped.0)) h.fit.limit trail h.lacks.cause.stopped.1.cause
       by places.Full (NoTest h) = start value most spill h.lacks.input.problem trail h.lacks.cause
-      by (places.Predict rec) (NoPredictions h) = of_row h.lacks.cause.segments h.lacks.cause.row spill h.lacks.cause.operation
       by places.Path (NoPath h) = of_first _ spill h.lacks.cause.2
       by place (NoVerdict h) = absurd h.cause
       by place (NoFit h) = absurd h.lacks.cause

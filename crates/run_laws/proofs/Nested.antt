@@ -100,7 +100,7 @@ module _ (words : List (List ℕ)) (first : TestJob) (asked : IsJobOf words (job
             let fit = right_test r.0 r.1 report r.3 in
             dependent r.0 fit.1.0 (record { bytes = r.1; read = r.2; is = fit.1.1 }) fit.1.2.rank
 
-        limits : (place : Place) (limit : ℕ) (trail : Trail Frac128) → ¬ IsHalted words source source' (halts.PivotLimit place limit trail)
+        limits : (place : Place) (limit : ℕ) (trail : Trail) → ¬ IsHalted words source source' (halts.PivotLimit place limit trail)
         limits place limit trail h =
             let p = lacking (halts.PivotLimit place limit trail) (λ job other cause. cause.2.cause) h in
             dependent p.0 p.3.input (record { bytes = p.1; read = p.2; is = p.3.is }) p.3.cause.0

@@ -9,7 +9,7 @@ use Rattle.frac_core.specs.Values.{value}
 use Rattle.loss_model.specs.declared.problem.Problem.{Problem}
 use Rattle.loss_model.specs.declared.process.Segment.{Segment}
 use Rattle.loss_model.specs.Dual.{IsDataRow, rankscore}
-use Rattle.loss_model.specs.Problem.{sample, value_at}
+use Rattle.loss_model.specs.Problem.{sample, number_at}
 use Rattle.loss_model.specs.Segment.{dual_at}
 use Rattle.pivot_model.proofs.Solved.{any_default}
 use Rattle.walk_model.specs.Stays.{Stay, IsSegmentOf, AreSegmentsOf}
@@ -28,16 +28,16 @@ use Rattle.run_laws.proofs.Fits.{IsRightRead, records}
 -- ---- the pair of a basic row
 
 -- what holds of the row of each pair holds of each of the rows
-of_row : (P : ℕ → Type 0) (pairs : List (ScorePair Frac128)) (rows : List ℕ) → All (λ q. P q.row) pairs → map (λ q. q.row) pairs ≡ rows
+of_row : (P : ℕ → Type 0) (pairs : List ScorePair) (rows : List ℕ) → All (λ q. P q.row) pairs → map (λ q. q.row) pairs ≡ rows
     → (i : ℕ) → Contains rows i → P i
 of_row P pairs rows h same i there = All-contains P rows i (subst (λ xs. All P xs) same (each pairs h)) there
   where
-    each : (qs : List (ScorePair Frac128)) → All (λ q. P q.row) qs → All P (map (λ q. q.row) qs)
+    each : (qs : List ScorePair) → All (λ q. P q.row) qs → All P (map (λ q. q.row) qs)
     each [] h = All-nil P
     each (q ∷ qs) h = All-cons P q.row (map (λ q. q.row) qs) (All-head (λ q. P q.row) q qs h) (each qs (All-tail (λ q. P q.row) q qs h))
 
 module _ (unique_score : ScoreIsInside) (unique_scores : ScoresAreInside) (n : ℕ) (p : Problem Frac128) (observed : (i : ℕ) → i < n → IsDataRow (sample value p) i)
-    (s : Segment Frac128) (pairs : List (ScorePair Frac128)) (scored : IsScored value p n s pairs) where
+    (s : Segment) (pairs : List ScorePair) (scored : IsScored value p n s pairs) where
   -- a score of an observation is its rankscore
   score_lo : (i : ℕ) → i < n → row_score value p n s.vertex s.basic_lo s.lo i ≡ rankscore (sample value p) (printed s.lo) (dual_at value p s.vertex s.basic_lo s.lo) i
   score_lo i l = ap (λ t. cond t (rankscore (sample value p) (printed s.lo) (dual_at value p s.vertex s.basic_lo s.lo) i) (dual_at value p s.vertex s.basic_lo s.lo i)) (lt-ltb i n l)
@@ -69,7 +69,7 @@ module _ (unique_score : ScoreIsInside) (unique_scores : ScoresAreInside) (n : �
 
 module _ (R : OrderedRing) (unique : MinimumIsUniqueIn R) (unique_between : UniqueBetweenIn R) (unique_score : ScoreIsInside) (unique_scores : ScoresAreInside)
     (fit : Fit) (observed : (i : ℕ) → i < fit.data_rows → IsDataRow (sample value fit.problem) i) where
-  module _ (stay : Stay) (s : Segment Frac128) (is : IsSegmentOf value fit.problem stay s) (right : IsRightSegment value fit.problem s) (pairs : List (ScorePair Frac128)) (scored : IsScored value fit.problem fit.data_rows s pairs) where
+  module _ (stay : Stay) (s : Segment) (is : IsSegmentOf value fit.problem stay s) (right : IsRightSegment value fit.problem s) (pairs : List ScorePair) (scored : IsScored value fit.problem fit.data_rows s pairs) where
     -- what holds of the row of each pair holds of each row of the basis
     each_row : (P : ℕ → Type 0) → All (λ q. P q.row) pairs → (j : ℕ) → j < fit.problem.columns → P (slice_index stay.basis j)
     each_row P h j l =
@@ -81,19 +81,19 @@ module _ (R : OrderedRing) (unique : MinimumIsUniqueIn R) (unique_between : Uniq
     only =
         record {
           at_lo = λ h.
-              unique (sample value fit.problem) (slice_index stay.basis) is.vertex.a (printed s.lo) (value_at value s.vertex.coef) (dual_at value fit.problem s.vertex s.basic_lo s.lo) is.vertex.is_basis right.at_lo.dual
+              unique (sample value fit.problem) (slice_index stay.basis) is.vertex.a (printed s.lo) (number_at s.vertex.coef) (dual_at value fit.problem s.vertex s.basic_lo s.lo) is.vertex.is_basis right.at_lo.dual
               (each_row (IsInside (sample value fit.problem) (printed s.lo) (dual_at value fit.problem s.vertex s.basic_lo s.lo)) (inside_lo unique_score unique_scores fit.data_rows fit.problem observed s pairs scored h));
           at_hi = λ h.
-              unique (sample value fit.problem) (slice_index stay.basis) is.vertex.a (printed s.hi) (value_at value s.vertex.coef) (dual_at value fit.problem s.vertex s.basic_hi s.hi) is.vertex.is_basis right.at_hi.dual
+              unique (sample value fit.problem) (slice_index stay.basis) is.vertex.a (printed s.hi) (number_at s.vertex.coef) (dual_at value fit.problem s.vertex s.basic_hi s.hi) is.vertex.is_basis right.at_hi.dual
               (each_row (IsInside (sample value fit.problem) (printed s.hi) (dual_at value fit.problem s.vertex s.basic_hi s.hi)) (inside_hi unique_score unique_scores fit.data_rows fit.problem observed s pairs scored h));
           between = λ h theta strict.
-              unique_between (sample value fit.problem) (slice_index stay.basis) is.vertex.a (printed s.lo) (printed s.hi) (value_at value s.vertex.coef) (dual_at value fit.problem s.vertex s.basic_lo s.lo)
+              unique_between (sample value fit.problem) (slice_index stay.basis) is.vertex.a (printed s.lo) (printed s.hi) (number_at s.vertex.coef) (dual_at value fit.problem s.vertex s.basic_lo s.lo)
               (dual_at value fit.problem s.vertex s.basic_hi s.hi) is.vertex.is_basis right.at_lo.dual right.at_hi.dual theta strict
               (each_row (IsInsideBetween (sample value fit.problem) (printed s.lo) (printed s.hi) (dual_at value fit.problem s.vertex s.basic_lo s.lo) (dual_at value fit.problem s.vertex s.basic_hi s.hi))
               (inside_between unique_score unique_scores fit.data_rows fit.problem observed s pairs scored h));
         }
 
-  all_only : (stays : List Stay) (segments : List (Segment Frac128)) (scores : List (List (ScorePair Frac128))) → AreSegmentsOf value fit.problem stays segments → All (IsRightSegment value fit.problem) segments
+  all_only : (stays : List Stay) (segments : List Segment) (scores : List (List ScorePair)) → AreSegmentsOf value fit.problem stays segments → All (IsRightSegment value fit.problem) segments
       → AllZip (IsScored value fit.problem fit.data_rows) segments scores → AllZip (IsOnlyBy R fit) segments scores
   all_only stays [] [] of right scored = tt
   all_only stays [] (x ∷ xs) of right scored = absurd scored

@@ -5,7 +5,7 @@ use Rattle.std.specs.declared.cmp.Ordering.TheVariants.{Less}
 use Rattle.std.proofs.lemmas.Int.{ints}
 use Rattle.std.proofs.lemmas.Bool.{cases_lt, eq-eqb, eqb-true}
 use Rattle.std.proofs.lemmas.Option.{slice_get_within}
-use Rattle.rational_laws.specs.Fraction.{rational}
+use Rattle.rational_laws.specs.Fraction.{Fraction, rational}
 use Rattle.rational_laws.specs.Order.{cmp_ℚ}
 use Rattle.rational_laws.specs.Rational.{ℚ, ◌*ℚ◌, neg_ℚ, whole, ◌≤ℚ◌}
 use Rattle.rational_laws.proofs.OrderLaws.{cmp_ℚ-Less, le_from_not}
@@ -19,7 +19,7 @@ use Rattle.loss_model.specs.declared.problem.Row.{Row}
 use Rattle.loss_model.specs.declared.process.Segment.{Segment}
 use Rattle.loss_model.specs.declared.vertex.Side.{Side}
 use Rattle.loss_model.specs.declared.vertex.Side.TheVariants.{Up, Down, Basic}
-use Rattle.loss_model.specs.Problem.{value_at, sample}
+use Rattle.loss_model.specs.Problem.{sample, number_at}
 use Rattle.loss_model.specs.Sample.{up_cost, down_cost}
 use Rattle.loss_model.specs.Segment.{Covers, of_segment, segments_of}
 use Rattle.loss_model.specs.Strict.{◌<ℚ◌}
@@ -43,7 +43,7 @@ rows_formed : (p : Problem Frac128) → All (λ (r : Row Frac128). length r.x �
 rows_formed p entries =
     all_each p.rows (row_form p) (λ i r e. ((ap (λ (n : ℕ). whole (pos n)) (item_at (λ (r : Row Frac128). length r.x ≡ p.columns) p.rows entries i r e), tt), tt))
 
-segment_formed : (p : Problem Frac128) (j : ℕ) (s : Segment Frac128) → IsSoundSegment p s → AreTrue (segment_form p j s)
+segment_formed : (p : Problem Frac128) (j : ℕ) (s : Segment) → IsSoundSegment p s → AreTrue (segment_form p j s)
 segment_formed p j s h =
     let count : (a b : ℕ) → a ≡ b → whole (pos a) ≡ whole (pos b) = λ a b e. ap (λ (n : ℕ). whole (pos n)) e in (
       (count _ _ h.vertex.coef, tt),
@@ -80,7 +80,7 @@ chosen : (b : Bool) (xs ys : List Test) → (b ≡ true → AreTrue xs) → (b �
 chosen true xs ys h k = h refl
 chosen false xs ys h k = k refl
 
-module _ (p : Problem Frac128) (from to : ℚ) (segments : List (Segment Frac128)) (c : Covers (length p.rows) from to (segments_of value128 p segments)) where
+module _ (p : Problem Frac128) (from to : ℚ) (segments : List Segment) (c : Covers (length p.rows) from to (segments_of value128 p segments)) where
   strict : (j : ℕ) → cmp_ℚ (lo_at segments j) (hi_at segments j) ≡ Less → lo_at segments j <ℚ hi_at segments j
   strict j e = (cmp_ℚ-Less (lo_at segments j) (hi_at segments j)).0 e
 
@@ -142,7 +142,7 @@ module _ (p : Problem Frac128) (e : End) (sides : length e.vertex.sides ≡ leng
   bound_true condition j i Down h k = tt
   bound_true condition j i Basic h k = ((h, (k, tt)), tt)
 
-  module _ (stated : Frac128) (sound : IsSoundEnd p e.vertex e.theta e.basic stated) where
+  module _ (stated : Fraction) (sound : IsSoundEnd p e.vertex e.theta e.basic stated) where
     bounds_true : (condition j : ℕ) → AreTrue (bounds condition (sample value128 p) j e)
     bounds_true condition j =
         true_upto (length p.rows) (λ i. bound_test condition j (sample value128 p) e i (side_in e.vertex i)) (λ i l.
@@ -162,7 +162,7 @@ module _ (p : Problem Frac128) (e : End) (sides : length e.vertex.sides ≡ leng
     balances_true j before =
         true_upto p.columns (λ k. one 6 j (before + k + 1) (balance (sample value128 p) e k) Equal (given (whole (pos 0)))) (λ k l. ((balance_is k l, tt), tt))
 
-    objective_is : worth (objective (sample value128 p) e) ≡ rational (value128 stated)
+    objective_is : worth (objective (sample value128 p) e) ≡ rational stated
     objective_is =
         let y = (sample value128 p).y in
         worth-sum (length p.rows) (λ i. formula.times (given (y i)) (dual_at_row (sample value128 p) e i))
@@ -172,16 +172,16 @@ module _ (p : Problem Frac128) (e : End) (sides : length e.vertex.sides ≡ leng
 
     losses_true : (j inner : ℕ) → AreTrue (loss_tests (sample value128 p) j e stated inner)
     losses_true j inner =
-        ((sound.lost ∙ sym (worth-loss (sample value128 p) e.theta (value_at value128 e.vertex.coef)), tt), ((sym objective_is, tt), tt))
+        ((sound.lost ∙ sym (worth-loss (sample value128 p) e.theta (number_at e.vertex.coef)), tt), ((sym objective_is, tt), tt))
 
 -- ---- all segments
 
 -- a number of segment j
-number_of : (segments : List (Segment Frac128)) (f : Segment Frac128 → ℚ) (j : ℕ) (s : Segment Frac128) → slice_get segments j ≡ Some s → of_segment segments f j ≡ f s
-number_of segments f j s e = ap (λ (o : Option (Segment Frac128)). option_map_or f o (whole (pos 0))) e
+number_of : (segments : List Segment) (f : Segment → ℚ) (j : ℕ) (s : Segment) → slice_get segments j ≡ Some s → of_segment segments f j ≡ f s
+number_of segments f j s e = ap (λ (o : Option Segment). option_map_or f o (whole (pos 0))) e
 
-module _ (p : Problem Frac128) (lo hi : Frac128) (segments : List (Segment Frac128)) (h : AreSound p lo hi segments) where
-  sound : (j : ℕ) (s : Segment Frac128) → slice_get segments j ≡ Some s → IsSoundSegment p s
+module _ (p : Problem Frac128) (lo hi : Frac128) (segments : List Segment) (h : AreSound p lo hi segments) where
+  sound : (j : ℕ) (s : Segment) → slice_get segments j ≡ Some s → IsSoundSegment p s
   sound j s e = item_at (IsSoundSegment p) segments h.each j s e
 
   pub are_rows : AreTrue (each p.rows (row_form p))
@@ -223,15 +223,15 @@ module _ (p : Problem Frac128) (lo hi : Frac128) (segments : List (Segment Frac1
       (losses_true p (high_of s) right.vertex.sides s.loss_hi right.at_hi (j + 1) 3))
 
   -- where two segments meet
-  meets : (j : ℕ) (s next : Segment Frac128) → slice_get segments j ≡ Some s → slice_get segments (j + 1) ≡ Some next → AreTrue (joint_tests (sample value128 p) (j + 1) s next)
+  meets : (j : ℕ) (s next : Segment) → slice_get segments j ≡ Some s → slice_get segments (j + 1) ≡ Some next → AreTrue (joint_tests (sample value128 p) (j + 1) s next)
   meets j s next here behind =
       true_upto (length p.rows)
       (λ i. one 8 (j + 1) (i + 1) (dual_at_row (sample value128 p) (high_of s) i) Equal (dual_at_row (sample value128 p) (low_of next) i))
       (λ i l.
       let low = low_of next in
       let high = high_of s in
-      let at_hi = number_of segments (λ s. dual_value value128 p s.vertex s.basic_hi (rational (value128 s.hi)) i) j s here in
-      let at_lo = number_of segments (λ s. dual_value value128 p s.vertex s.basic_lo (rational (value128 s.lo)) i) (j + 1) next behind in
+      let at_hi = number_of segments (λ s. dual_value value128 p s.vertex s.basic_hi (rational s.hi) i) j s here in
+      let at_lo = number_of segments (λ s. dual_value value128 p s.vertex s.basic_lo (rational s.lo) i) (j + 1) next behind in
       let same = h.covers.same j i (slice_get_within segments (j + 1) next behind) l in
       ((dual_is p high (sound j s here).vertex.sides i l ∙ sym at_hi ∙ same ∙ at_lo ∙ sym (dual_is p low (sound (j + 1) next behind).vertex.sides i l), tt), tt))
 

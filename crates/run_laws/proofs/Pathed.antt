@@ -1,6 +1,7 @@
 -- A job that asks for a path is answered; and where its bytes have a fault, there is no report and no stop.
 use Rattle.std.specs.Prelude.{◌≡◌, ℕ, ◌<◌, ◌≤◌, List, Some}
 use Rattle.std.proofs.Common.{arith, inl, inr, refl, sym, subst, ◌∙◌}
+use Rattle.rational_laws.specs.Fraction.{Fraction}
 use Rattle.frac_core.specs.Limits.{most_rows}
 use Rattle.frac_core.specs.declared.frac128.Frac128.{Frac128}
 use Rattle.loss_model.specs.declared.problem.Problem.{Problem}
@@ -77,16 +78,16 @@ module _ (words : List (List ℕ)) (first : PathJob) (asked : IsJobOf words (job
     lacking halt none h = let p = halted halt h in (p.0, p.1, p.2, second_of p.3 (none p.0 p.1))
 
     -- so it is of a limit and of an overflow
-    limit_lacking : (place : Place) (limit : ℕ) (trail : Trail Frac128) → IsHalted words source source' (halts.PivotLimit place limit trail)
+    limit_lacking : (place : Place) (limit : ℕ) (trail : Trail) → IsHalted words source source' (halts.PivotLimit place limit trail)
         → (job : PathJob) × (other : List ℕ) × WereRead words source source' (jobs.Path job) other × LacksPathFit job other (halts.PivotLimit place limit trail)
     limit_lacking place limit trail = lacking (halts.PivotLimit place limit trail) (λ job other cause. cause.2.cause)
 
-    overflow_lacking : (place : Place) (trail : Trail Frac128) (spill : Spill Frac128) → IsHalted words source source' (halts.Overflow place trail spill)
+    overflow_lacking : (place : Place) (trail : Trail) (spill : Spill Frac128) → IsHalted words source source' (halts.Overflow place trail spill)
         → (job : PathJob) × (other : List ℕ) × WereRead words source source' (jobs.Path job) other × LacksPathFit job other (halts.Overflow place trail spill)
     overflow_lacking place trail spill = lacking (halts.Overflow place trail spill) (λ job other cause. cause.2.cause)
 
     -- no path is refused for dependent columns, none of them has a certificate, and none is rejected
-    independent : (combination : List Frac128) → ¬ IsHalted words source source' (halts.Refused (refusals.Dependent combination))
+    independent : (combination : List Fraction) → ¬ IsHalted words source source' (halts.Refused (refusals.Dependent combination))
     independent combination h = (lacking (halts.Refused (refusals.Dependent combination)) (λ job other cause. cause.2.cause) h).3.cause
 
     too_long : (n : ℕ) → ¬ IsHalted words source source' (halts.Refused (refusals.CertTooLong n))
@@ -98,7 +99,7 @@ module _ (words : List (List ℕ)) (first : PathJob) (asked : IsJobOf words (job
     -- ---- limits
 
     -- a limit is one of the process
-    limit_at : (place : Place) (limit : ℕ) (trail : Trail Frac128) → IsHalted words source source' (halts.PivotLimit place limit trail) → IsAtProcess place
+    limit_at : (place : Place) (limit : ℕ) (trail : Trail) → IsHalted words source source' (halts.PivotLimit place limit trail) → IsAtProcess place
     limit_at place limit trail h = by place (limit_lacking place limit trail h).3
       where
         by : {job : PathJob} {bytes : List ℕ} (place : Place) → LacksPathFit job bytes (halts.PivotLimit place limit trail) → IsAtProcess place
@@ -106,7 +107,7 @@ module _ (words : List (List ℕ)) (first : PathJob) (asked : IsJobOf words (job
         by other h = h.cause
 
     -- and an overflow one of the costs or of the process
-    overflow_at : (place : Place) (trail : Trail Frac128) (spill : Spill Frac128) → IsHalted words source source' (halts.Overflow place trail spill) → IsAtPath place
+    overflow_at : (place : Place) (trail : Trail) (spill : Spill Frac128) → IsHalted words source source' (halts.Overflow place trail spill) → IsAtPath place
     overflow_at place trail spill h = by place (overflow_lacking place trail spill h).3
       where
         by : {job : PathJob} {bytes : List ℕ} (place : Place) → LacksPathFit job bytes (halts.Overflow place trail spill) → IsAtPath place
@@ -145,11 +146,11 @@ module _ (words : List (List ℕ)) (first : PathJob) (asked : IsJobOf words (job
           by (inl h) = law job.fit bytes plain.input h.0 (plain_input job.fit here.0 here.2.model plain.input here.2.by bytes here.1) shaped h.1
           by (inr many) = let over = many plain here in omega (arith, over, few)
 
-      no_stop : (job : PathJob) (other : List ℕ) → WereRead words source source' (jobs.Path job) other → (place : Place) (limit : ℕ) (trail : Trail Frac128) → LacksPathFit job other (halts.PivotLimit place limit trail) → ⊥
+      no_stop : (job : PathJob) (other : List ℕ) → WereRead words source source' (jobs.Path job) other → (place : Place) (limit : ℕ) (trail : Trail) → LacksPathFit job other (halts.PivotLimit place limit trail) → ⊥
       no_stop job other read places.Process limit trail h = let lacks = h.cause.1 in no_input job other read h.plain h.is h.rows.shaped (few_rows job h.plain lacks.problem lacks.path lacks.shaped)
       no_stop job other read rest limit trail h = h.cause
 
-      no_spill : (job : PathJob) (other : List ℕ) → WereRead words source source' (jobs.Path job) other → (place : Place) (trail : Trail Frac128) (spill : Spill Frac128) → LacksPathFit job other (halts.Overflow place trail spill) → ⊥
+      no_spill : (job : PathJob) (other : List ℕ) → WereRead words source source' (jobs.Path job) other → (place : Place) (trail : Trail) (spill : Spill Frac128) → LacksPathFit job other (halts.Overflow place trail spill) → ⊥
       no_spill job other read places.Process trail spill h = let lacks = h.cause in no_input job other read h.plain h.is h.rows.shaped (few_rows job h.plain lacks.problem lacks.path lacks.shaped)
       no_spill job other read places.Path trail spill h = no_input job other read h.plain h.is h.rows.shaped h.cause.1
       no_spill job other read rest trail spill h = h.cause

@@ -5,7 +5,7 @@ use Rattle.std.specs.declared.cmp.Ordering.{Ordering}
 use Rattle.std.specs.declared.cmp.Ordering.TheVariants.{Less, Equal as Same, Greater}
 use Rattle.std.proofs.lemmas.Int.{ints}
 use Rattle.std.proofs.lemmas.Bool.{eqb-true}
-use Rattle.rational_laws.specs.Fraction.{rational}
+use Rattle.rational_laws.specs.Fraction.{Fraction, rational}
 use Rattle.rational_laws.specs.Order.{cmp_ℚ}
 use Rattle.rational_laws.specs.Rational.{ℚ, ◌-ℚ◌, ◌*ℚ◌, neg_ℚ, whole, ◌≤ℚ◌}
 use Rattle.rational_laws.specs.RationalSums.{sum_ℚ}
@@ -27,7 +27,7 @@ use Rattle.loss_model.specs.declared.interval.Beyond.{Beyond}
 use Rattle.loss_model.specs.declared.interval.Beyond.TheVariants.{Outside, Ray}
 use Rattle.loss_model.specs.declared.interval.End.{End as Ending}
 use Rattle.loss_model.specs.declared.interval.IntervalProof.{IntervalProof}
-use Rattle.loss_model.specs.Problem.{value_at, sample}
+use Rattle.loss_model.specs.Problem.{number_at, sample}
 use Rattle.loss_model.specs.Sample.{Sample, up_cost, down_cost, fitted, residual}
 use Rattle.loss_model.specs.Strict.{◌<ℚ◌}
 use Rattle.loss_model.specs.Vertex.{dual_value, IsOn}
@@ -87,7 +87,7 @@ module _ (p : Sample) (j : ℕ) (c : ℕ → ℚ) (own : c j ≡ whole (pos 0)) 
 -- ---- one end
 
 -- a row has the side that is found for it
-side_is : (v : Vertex Frac128) (i : ℕ) → i < length v.sides → slice_get v.sides i ≡ Some (side_in v i)
+side_is : (v : Vertex) (i : ℕ) → i < length v.sides → slice_get v.sides i ≡ Some (side_in v i)
 side_is v i l =
     let at = item_there v.sides i l in
     at.1 ∙ ap Some (sym (ap (λ (o : Option Side). option_map_or (λ side. side) o Basic) at.1))
@@ -95,18 +95,18 @@ side_is v i l =
 along_is : (p : Sample) (ray : ℕ → ℚ) (i : ℕ) → worth (along_formula p ray i) ≡ fitted p ray i
 along_is p ray i = worth-sum p.columns (λ k. formula.times (given (p.x i k)) (given (ray k)))
 
-module _ (p : Problem Frac128) (a : IntervalProof Frac128) (meets : MeetsConditions value128 p a) where
+module _ (p : Problem Frac128) (a : IntervalProof) (meets : MeetsConditions value128 p a) where
   abbrev s : Sample
   s = sample value128 p
 
   abbrev tau : ℚ
-  tau = rational (value128 a.tau)
+  tau = rational a.tau
 
   abbrev crit : ℚ
-  crit = rational (value128 a.crit)
+  crit = rational a.crit
 
   abbrev factors : ℕ → ℚ
-  factors = value_at value128 a.projection
+  factors = number_at a.projection
 
   abbrev q : ℚ
   q = length_of value128 p a
@@ -117,7 +117,7 @@ module _ (p : Problem Frac128) (a : IntervalProof Frac128) (meets : MeetsConditi
   bound_is : worth (rank_bound_formula asked) ≡ rank_bound tau crit q
   bound_is = ap (λ z. ((crit *ℚ tau) *ℚ (whole (pos 1) -ℚ tau)) *ℚ z) (square_is (sample value128 p) a.column factors meets.projection.own)
 
-  module _ (v : Vertex Frac128) (basic : List Frac128) (sides : length v.sides ≡ length p.rows) where
+  module _ (v : Vertex) (basic : List Fraction) (sides : length v.sides ≡ length p.rows) where
     abbrev at_end : End
     at_end = values_of asked v basic
 
@@ -179,21 +179,21 @@ module _ (p : Problem Frac128) (a : IntervalProof Frac128) (meets : MeetsConditi
             absurd (falls.0 (subst (λ z. whole (pos 0) ≤ℚ z) is (le_from_not (whole (pos 0)) f ((cmp_ℚ-Greater f (whole (pos 0))).0 e))))
         by Greater e (inr (inr rises)) = ((cmp_ℚ-Greater f (whole (pos 0))).0 e, (dual_is i l ∙ rises.1, tt))
 
-  module _ (v : Vertex Frac128) (inside : List Frac128) (h : MeetsInside value128 p a.column tau crit q v inside) where
-    residual_at : (i : ℕ) → worth (residual_formula (sample value128 p) (value_at value128 v.coef) i) ≡ residual (sample value128 p) (value_at value128 v.coef) i
-    residual_at i = worth-residual (sample value128 p) (value_at value128 v.coef) i
+  module _ (v : Vertex) (inside : List Fraction) (h : MeetsInside value128 p a.column tau crit q v inside) where
+    residual_at : (i : ℕ) → worth (residual_formula (sample value128 p) (number_at v.coef) i) ≡ residual (sample value128 p) (number_at v.coef) i
+    residual_at i = worth-residual (sample value128 p) (number_at v.coef) i
 
-    basic_true : (i : ℕ) (side : Side) → IsOn side (residual (sample value128 p) (value_at value128 v.coef) i) → ArePartsTrue (basic_parts (sample value128 p) v i side)
+    basic_true : (i : ℕ) (side : Side) → IsOn side (residual (sample value128 p) (number_at v.coef) i) → ArePartsTrue (basic_parts (sample value128 p) v i side)
     basic_true i Up on = tt
     basic_true i Down on = tt
     basic_true i Basic on = (residual_at i ∙ on, tt)
 
-    side_true : (i : ℕ) (side : Side) → IsOn side (residual (sample value128 p) (value_at value128 v.coef) i) → ArePartsTrue (side_parts (sample value128 p) v i side)
+    side_true : (i : ℕ) (side : Side) → IsOn side (residual (sample value128 p) (number_at v.coef) i) → ArePartsTrue (side_parts (sample value128 p) v i side)
     side_true i Up on = (subst (λ z. whole (pos 0) ≤ℚ z) (sym (residual_at i)) on, tt)
     side_true i Down on = (subst (λ z. z ≤ℚ whole (pos 0)) (sym (residual_at i)) on, tt)
     side_true i Basic on = tt
 
-    on_side : (i : ℕ) → i < length p.rows → IsOn (side_in v i) (residual (sample value128 p) (value_at value128 v.coef) i)
+    on_side : (i : ℕ) → i < length p.rows → IsOn (side_in v i) (residual (sample value128 p) (number_at v.coef) i)
     on_side i l = h.on i (side_in v i) (side_is v i (omega (arith, h.sides, l)))
 
     within_bound : (worth (balance (sample value128 p) (values_of asked v inside) a.column) *ℚ worth (balance (sample value128 p) (values_of asked v inside) a.column)) ≤ℚ worth (rank_bound_formula asked)
@@ -211,8 +211,8 @@ module _ (p : Problem Frac128) (a : IntervalProof Frac128) (meets : MeetsConditi
 
   -- ---- what lies beyond an end
 
-  module _ (way : Way) (m : ℕ) (v : Vertex Frac128) (sides : length v.sides ≡ length p.rows) where
-    finite_true : (x : Frac128) (f : List Frac128) → rational (value128 x) ≡ value_at value128 v.coef a.column → MeetsOutside value128 p a.column tau crit q v f
+  module _ (way : Way) (m : ℕ) (v : Vertex) (sides : length v.sides ≡ length p.rows) where
+    finite_true : (x : Fraction) (f : List Fraction) → rational x ≡ number_at v.coef a.column → MeetsOutside value128 p a.column tau crit q v f
         → Holds (sign_of way) (rank_statistic (sample value128 p) a.column (dual_value value128 p v f tau)) (whole (pos 0))
         → AreTrue (finite_tests asked way m x v (values_of asked v f))
     finite_true x f is outside sign = (
@@ -233,24 +233,24 @@ module _ (p : Problem Frac128) (a : IntervalProof Frac128) (meets : MeetsConditi
       ),
     )
 
-    infinite_true : (ray : ℕ → ℚ) (inside : List Frac128) → ray a.column ≡ worth (unit_of way) → IsStatedRay (sample value128 p) tau ray (dual_value value128 p v inside tau)
+    infinite_true : (ray : ℕ → ℚ) (inside : List Fraction) → ray a.column ≡ worth (unit_of way) → IsStatedRay (sample value128 p) tau ray (dual_value value128 p v inside tau)
         → AreTrue (infinite_tests asked way m ray (values_of asked v inside))
     infinite_true ray inside unit stated = (
       (unit, tt),
       (parts_upto (length p.rows) (ray_parts (sample value128 p) (values_of asked v inside) ray) (λ i l. along_true v inside sides ray i l (stated i l)), tt),
     )
 
-  high_true : (m : ℕ) (e : Ending Frac128) (b : Bound Frac128) (y : Beyond Frac128) → length e.vertex.sides ≡ length p.rows
+  high_true : (m : ℕ) (e : Ending) (b : Bound Fraction) (y : Beyond) → length e.vertex.sides ≡ length p.rows
       → MeetsHighBound value128 p a.column tau crit q e.vertex e.inside b y → AreTrue (beyond_tests asked High m e b y)
   high_true m e (Finite x) (Outside f) sides h = finite_true High m e.vertex sides x f h.0 h.1 h.2
-  high_true m e Infinite (Ray r) sides h = infinite_true High m e.vertex sides (value_at value128 r) e.inside h.0 h.1
+  high_true m e Infinite (Ray r) sides h = infinite_true High m e.vertex sides (number_at r) e.inside h.0 h.1
   high_true m e (Finite x) (Ray r) sides h = absurd h
   high_true m e Infinite (Outside f) sides h = absurd h
 
-  low_true : (m : ℕ) (e : Ending Frac128) (b : Bound Frac128) (y : Beyond Frac128) → length e.vertex.sides ≡ length p.rows
+  low_true : (m : ℕ) (e : Ending) (b : Bound Fraction) (y : Beyond) → length e.vertex.sides ≡ length p.rows
       → MeetsLowBound value128 p a.column tau crit q e.vertex e.inside b y → AreTrue (beyond_tests asked Low m e b y)
   low_true m e (Finite x) (Outside f) sides h = finite_true Low m e.vertex sides x f h.0 h.1 h.2
-  low_true m e Infinite (Ray r) sides h = infinite_true Low m e.vertex sides (value_at value128 r) e.inside (h.0 ∙ ring_ℚ [] (number (negsuc 0)) (negated (number (pos 1))) refl) h.1
+  low_true m e Infinite (Ray r) sides h = infinite_true Low m e.vertex sides (number_at r) e.inside (h.0 ∙ ring_ℚ [] (number (negsuc 0)) (negated (number (pos 1))) refl) h.1
   low_true m e (Finite x) (Ray r) sides h = absurd h
   low_true m e Infinite (Outside f) sides h = absurd h
 
@@ -277,7 +277,7 @@ module _ (p : Problem Frac128) (a : IntervalProof Frac128) (meets : MeetsConditi
     ),
   )
 
-  order_true : (m : ℕ) (low high : Bound Frac128) → AreInOrder (bound_of value128 low) (bound_of value128 high) → AreTrue (order_tests m low high)
+  order_true : (m : ℕ) (low high : Bound Fraction) → AreInOrder (bound_of low) (bound_of high) → AreTrue (order_tests m low high)
   order_true m (Finite x) (Finite y) h = ((h, tt), tt)
   order_true m (Finite x) Infinite h = tt
   order_true m Infinite (Finite y) h = tt
@@ -300,12 +300,12 @@ module _ (p : Problem Frac128) (a : IntervalProof Frac128) (meets : MeetsConditi
 
 -- ---- form
 
-end_formed : (p : Problem Frac128) (e : Ending Frac128) → IsSoundEnding p e → ArePartsTrue (end_form p e)
+end_formed : (p : Problem Frac128) (e : Ending) → IsSoundEnding p e → ArePartsTrue (end_form p e)
 end_formed p e h =
     let count : (a b : ℕ) → a ≡ b → whole (pos a) ≡ whole (pos b) = λ a b e. ap (λ (n : ℕ). whole (pos n)) e in
     (count _ _ h.vertex.coef, (count _ _ h.vertex.sides, (count _ _ h.vertex.size, (count _ _ h.inside, (count _ _ h.beyond, tt)))))
 
-pub interval_formed : (p : Problem Frac128) (m : ℕ) (t : IntervalProof Frac128) → IsSoundInterval p t → AreTrue (interval_form p m t)
+pub interval_formed : (p : Problem Frac128) (m : ℕ) (t : IntervalProof) → IsSoundInterval p t → AreTrue (interval_form p m t)
 interval_formed p m t h = (
   (below, tt),
   ((ap (λ (n : ℕ). whole (pos n)) h.projection, tt), (end_formed p t.low h.low, (end_formed p t.high h.high, tt))),

@@ -3,7 +3,7 @@ use Rattle.std.specs.Prelude.{◌≡◌, ◌⊎◌, ◌≤◌, ◌<◌, ◌+◌,
 use Rattle.std.specs.Option.{option_map_or}
 use Rattle.std.specs.declared.cmp.Ordering.TheVariants.{Less}
 use Rattle.std.proofs.Common.{arith, refl, sym, ap, ap₂, subst, ◌∙◌, inl, inr}
-use Rattle.rational_laws.specs.Fraction.{rational}
+use Rattle.rational_laws.specs.Fraction.{Fraction, rational}
 use Rattle.rational_laws.specs.Solver.{◌⊞◌, ◌⊟◌, ◌⊠◌, v0, v1, v2}
 use Rattle.rational_laws.specs.Order.{cmp_ℚ}
 use Rattle.rational_laws.specs.Rational.{ℚ, ◌-ℚ◌, ◌*ℚ◌, whole, ◌≤ℚ◌}
@@ -16,7 +16,7 @@ use Rattle.frac_core.specs.Values.{value}
 use Rattle.loss_model.specs.declared.problem.Problem.{Problem}
 use Rattle.loss_model.specs.declared.process.Segment.{Segment}
 use Rattle.loss_model.specs.Sample.{loss, Minimises}
-use Rattle.loss_model.specs.Problem.{sample, value_at}
+use Rattle.loss_model.specs.Problem.{sample, number_at}
 use Rattle.loss_model.specs.Segment.{Segments, of_segment, segments_of}
 use Rattle.quantile_laws.specs.Counts.{HasIntercept, MinimumSplitsWeights, SidesSplitWeights, SidesSplitCounts}
 use Rattle.quantile_laws.specs.Monotonicity.{AreObservations, MinimiseAlong, CentroidNeverFallsAlong}
@@ -35,7 +35,7 @@ use Rattle.run_laws.proofs.LeastPaths.{at_place}
 
 module _ (minimum : MinimumSplitsWeights) (weights : SidesSplitWeights {F = Frac128} value) (counts : SidesSplitCounts {F = Frac128} value) (fit : Fit) (given : Option (List ℕ))
     (intercept : HasIntercept (sample value fit.problem) fit.data_rows (λ k. delta k 0)) (ones : given ≡ None → (i : ℕ) → i < fit.data_rows → (sample value fit.problem).up1 i ≡ whole (pos 1)) where
-  split : (s : Segment Frac128) → IsRightSegment value fit.problem s → IsSplitSegment fit given s
+  split : (s : Segment) → IsRightSegment value fit.problem s → IsSplitSegment fit given s
   split s right =
       record {
         marks_lo = weights fit.problem s.vertex fit.data_rows (λ k. delta k 0) (printed s.lo) s.basic_lo intercept right.vertex.sides right.at_lo.dual.feasible;
@@ -44,19 +44,19 @@ module _ (minimum : MinimumSplitsWeights) (weights : SidesSplitWeights {F = Frac
         counts_hi = λ unweighted. counts fit.problem s.vertex fit.data_rows (λ k. delta k 0) (printed s.hi) s.basic_hi intercept (ones unweighted) right.vertex.sides right.at_hi.dual.feasible;
         minimum = λ theta some above below c least.
             let within = right.within theta some above below in
-            minimum (sample value fit.problem) fit.data_rows (λ k. delta k 0) (rational theta) (value_at value s.vertex.coef) (mixed_dual value fit.problem s within.m within.n) c intercept within.dual least;
+            minimum (sample value fit.problem) fit.data_rows (λ k. delta k 0) (rational theta) (number_at s.vertex.coef) (mixed_dual value fit.problem s within.m within.n) c intercept within.dual least;
       }
 
 -- ---- the centroid
 
 module _ (fit : Fit) (job : FitJob) (right : IsRightFit value job fit) where
   abbrev coefficients : ℕ → ℕ → ℚ
-  coefficients j k = of_segment fit.process.segments (λ s. value_at value s.vertex.coef k) j
+  coefficients j k = of_segment fit.process.segments (λ s. number_at s.vertex.coef k) j
 
   -- what holds at an end of the segment at j
-  module _ (end : Segment Frac128 → Frac128) (least : (s : Segment Frac128) → IsRightSegment value fit.problem s → Minimises (sample value fit.problem) (printed (end s)) (value_at value s.vertex.coef)) where
-    abbrev MinimisesOf : Option (Segment Frac128) → Type 0
-    MinimisesOf o = Minimises (sample value fit.problem) (option_map_or (λ s. printed (end s)) o (whole (pos 0))) (λ k. option_map_or (λ s. value_at value s.vertex.coef k) o (whole (pos 0)))
+  module _ (end : Segment → Fraction) (least : (s : Segment) → IsRightSegment value fit.problem s → Minimises (sample value fit.problem) (printed (end s)) (number_at s.vertex.coef)) where
+    abbrev MinimisesOf : Option Segment → Type 0
+    MinimisesOf o = Minimises (sample value fit.problem) (option_map_or (λ s. printed (end s)) o (whole (pos 0))) (λ k. option_map_or (λ s. number_at s.vertex.coef k) o (whole (pos 0)))
 
     at_end : (j : ℕ) → j < length fit.process.segments → Minimises (sample value fit.problem) (of_segment fit.process.segments (λ s. printed (end s)) j) (coefficients j)
     at_end j l = at_place (IsRightSegment value fit.problem) MinimisesOf least fit.process.segments right.process.segments j l
@@ -66,7 +66,7 @@ module _ (fit : Fit) (job : FitJob) (right : IsRightFit value job fit) where
 
   rises : CentroidNeverFallsAlong → AreObservations (sample value fit.problem) fit.data_rows → CentroidRises fit
   rises never observed j k h l =
-      never (sample value fit.problem) fit.data_rows (length fit.problem.rows) (printed job.lo) (printed job.hi) (segments_of value fit.problem fit.process.segments) coefficients observed right.process.covers along j k h l
+      never (sample value fit.problem) fit.data_rows (length fit.problem.rows) (rational (value job.lo)) (rational (value job.hi)) (segments_of value fit.problem fit.process.segments) coefficients observed right.process.covers along j k h l
 
 -- ---- the losses
 
@@ -75,17 +75,17 @@ module _ (continuous : LeastLossIsContinuous) (line : LossIsLine) (falls : Slope
   s = segments_of value fit.problem fit.process.segments
 
   abbrev b : ℕ → ℕ → ℚ
-  b j k = of_segment fit.process.segments (λ s. value_at value s.vertex.coef k) j
+  b j k = of_segment fit.process.segments (λ s. number_at s.vertex.coef k) j
 
   least : MinimiseAlong (sample value fit.problem) s b
   least = along fit job right
 
   -- what is printed as a loss is the loss
-  module _ (end cost : Segment Frac128 → Frac128) (lost : (s : Segment Frac128) → IsRightSegment value fit.problem s → printed (cost s) ≡ loss (sample value fit.problem) (printed (end s)) (value_at value s.vertex.coef)) where
-    abbrev LostOf : Option (Segment Frac128) → Type 0
+  module _ (end cost : Segment → Fraction) (lost : (s : Segment) → IsRightSegment value fit.problem s → printed (cost s) ≡ loss (sample value fit.problem) (printed (end s)) (number_at s.vertex.coef)) where
+    abbrev LostOf : Option Segment → Type 0
     LostOf o =
         option_map_or (λ s. printed (cost s)) o (whole (pos 0))
-        ≡ loss (sample value fit.problem) (option_map_or (λ s. printed (end s)) o (whole (pos 0))) (λ k. option_map_or (λ s. value_at value s.vertex.coef k) o (whole (pos 0)))
+        ≡ loss (sample value fit.problem) (option_map_or (λ s. printed (end s)) o (whole (pos 0))) (λ k. option_map_or (λ s. number_at s.vertex.coef k) o (whole (pos 0)))
 
     lost_at : (j : ℕ) → j < length fit.process.segments → of_segment fit.process.segments (λ s. printed (cost s)) j ≡ loss (sample value fit.problem) (of_segment fit.process.segments (λ s. printed (end s)) j) (b j)
     lost_at j l = at_place (IsRightSegment value fit.problem) LostOf lost fit.process.segments right.process.segments j l
@@ -99,7 +99,7 @@ module _ (continuous : LeastLossIsContinuous) (line : LossIsLine) (falls : Slope
   joined : (j : ℕ) → j + 1 < length fit.process.segments → loss_hi_at fit j ≡ loss_lo_at fit (j + 1)
   joined j l =
       lost_hi j (omega (arith, l))
-      ∙ continuous (sample value fit.problem) (length fit.problem.rows) (printed job.lo) (printed job.hi) s b right.process.covers least j l
+      ∙ continuous (sample value fit.problem) (length fit.problem.rows) (rational (value job.lo)) (rational (value job.hi)) s b right.process.covers least j l
       ∙ sym (lost_lo (j + 1) l)
 
   -- the slope of a segment
@@ -115,13 +115,13 @@ module _ (continuous : LeastLossIsContinuous) (line : LossIsLine) (falls : Slope
       only : (count : length fit.process.segments ≡ 1) → j ≡ 0
       only count = omega (arith, l, count)
 
-      by : (cmp_ℚ (s.lo j) (s.hi j) ≡ Less) ⊎ ((s.count ≡ 1) × (printed job.lo ≡ printed job.hi)) → lo_at fit j ≤ℚ hi_at fit j
+      by : (cmp_ℚ (s.lo j) (s.hi j) ≡ Less) ⊎ ((s.count ≡ 1) × (rational (value job.lo) ≡ rational (value job.hi))) → lo_at fit j ≤ℚ hi_at fit j
       by (inl h) = le_from_not (lo_at fit j) (hi_at fit j) ((cmp_ℚ-Less (lo_at fit j) (hi_at fit j)).0 h)
       by (inr h) =
           let first : j ≡ 0 = only h.0 in
           let last : s.count - 1 ≡ j = omega (arith, h.0, first) in
-          let low : lo_at fit j ≡ printed job.lo = ap s.lo first ∙ right.process.covers.first in
-          let high : hi_at fit j ≡ printed job.hi = ap s.hi (sym last) ∙ right.process.covers.last in
+          let low : lo_at fit j ≡ rational (value job.lo) = ap s.lo first ∙ right.process.covers.first in
+          let high : hi_at fit j ≡ rational (value job.hi) = ap s.hi (sym last) ∙ right.process.covers.last in
           subst (λ z. lo_at fit j ≤ℚ z) (low ∙ h.1 ∙ sym high) (≤ℚ_refl (lo_at fit j))
 
   concave : AreConcaveLosses fit
@@ -137,7 +137,7 @@ module _ (continuous : LeastLossIsContinuous) (line : LossIsLine) (falls : Slope
             subst (λ z. z ≤ℚ ((loss_hi_at fit j -ℚ loss_lo_at fit j) *ℚ v)) (ring_ℚ (u ∷ v ∷ x ∷ []) ((v0 ⊠ v1) ⊠ v2) ((v1 ⊠ v2) ⊠ v0) refl ∙ ap (λ z. z *ℚ u) (sym (change k l)))
             (subst (λ z. ((u *ℚ v) *ℚ x) ≤ℚ z) (ring_ℚ (u ∷ v ∷ y ∷ []) ((v0 ⊠ v1) ⊠ v2) ((v0 ⊠ v2) ⊠ v1) refl ∙ ap (λ z. z *ℚ v) (sym (change j m)))
             (≤ℚ_mul x y (u *ℚ v) (product_not_negative u v (wide j m) (wide k l))
-            (falls (sample value fit.problem) (length fit.problem.rows) (printed job.lo) (printed job.hi) s b right.process.covers least j k h l)));
+            (falls (sample value fit.problem) (length fit.problem.rows) (rational (value job.lo)) (rational (value job.hi)) s b right.process.covers least j k h l)));
       }
 
 -- ---- a report

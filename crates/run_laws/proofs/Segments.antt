@@ -7,7 +7,7 @@ use Rattle.frac_core.specs.Values.{value}
 use Rattle.loss_model.specs.declared.problem.Problem.{Problem}
 use Rattle.loss_model.specs.declared.process.Segment.{Segment}
 use Rattle.loss_model.specs.Dual.{IsDual}
-use Rattle.loss_model.specs.Problem.{sample, value_at}
+use Rattle.loss_model.specs.Problem.{sample, number_at}
 use Rattle.loss_model.specs.Segment.{dual_at}
 use Rattle.cert_text.specs.declared.cert.Cert.{Cert}
 use Rattle.rq_words.specs.declared.job.Job.{Job}
@@ -23,12 +23,12 @@ use Rattle.rq_cli.specs.Outcomes.{IsAnswered, Stream}
 use Rattle.run_laws.specs.Reports.{printed, OnSegments, HasSegments}
 
 -- dual values of equal cost at both ends
-pub record IsShown (p : Problem Frac128) (s : Segment Frac128) : Type 0 where
-  pub lo : IsDual (sample value p) (printed s.lo) (value_at value s.vertex.coef) (dual_at value p s.vertex s.basic_lo s.lo)
-  pub hi : IsDual (sample value p) (printed s.hi) (value_at value s.vertex.coef) (dual_at value p s.vertex s.basic_hi s.hi)
+pub record IsShown (p : Problem Frac128) (s : Segment) : Type 0 where
+  pub lo : IsDual (sample value p) (printed s.lo) (number_at s.vertex.coef) (dual_at value p s.vertex s.basic_lo s.lo)
+  pub hi : IsDual (sample value p) (printed s.hi) (number_at s.vertex.coef) (dual_at value p s.vertex s.basic_hi s.hi)
 
-module _ (P : Problem Frac128 → Segment Frac128 → Type 0) (by_duals : (p : Problem Frac128) (s : Segment Frac128) → IsShown p s → P p s) where
-  all_right : (p : Problem Frac128) (segments : List (Segment Frac128)) → All (IsRightSegment value p) segments → All (P p) segments
+module _ (P : Problem Frac128 → Segment → Type 0) (by_duals : (p : Problem Frac128) (s : Segment) → IsShown p s → P p s) where
+  all_right : (p : Problem Frac128) (segments : List Segment) → All (IsRightSegment value p) segments → All (P p) segments
   all_right p segments right k d l =
       let at = right k d l in
       by_duals p (get_or segments k d) (record { lo = at.at_lo.dual; hi = at.at_hi.dual })
@@ -36,7 +36,7 @@ module _ (P : Problem Frac128 → Segment Frac128 → Type 0) (by_duals : (p : P
   -- those of a certificate that is written
   certified : (job : FitJob) (input : Input) (cert : Cert) → IsCertified job input cert → All (P cert.problem) cert.segments
   certified job input cert h =
-      subst (λ (xs : List (Segment Frac128)). All (P cert.problem) xs) (sym h.is.segments)
+      subst (λ (xs : List Segment). All (P cert.problem) xs) (sym h.is.segments)
       (subst (λ (p : Problem Frac128). All (P p) h.fit.process.segments) (sym h.is.problem) (all_right h.fit.problem h.fit.process.segments h.right.right.process.segments))
 
   -- and of one that is accepted

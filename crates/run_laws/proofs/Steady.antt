@@ -10,7 +10,7 @@ use Rattle.loss_model.specs.declared.process.Segment.{Segment}
 use Rattle.loss_model.specs.declared.vertex.Side.{Side}
 use Rattle.loss_model.specs.declared.vertex.Side.TheVariants.{Up, Down, Basic}
 use Rattle.loss_model.specs.Sample.{Sample}
-use Rattle.loss_model.specs.Problem.{sample, value_at}
+use Rattle.loss_model.specs.Problem.{sample, number_at}
 use Rattle.loss_model.specs.Segment.{dual_at}
 use Rattle.loss_model.specs.Vertex.{value_of_side, basic_value}
 use Rattle.quantile_laws.specs.Equivariance.{ResponsesMayMove}
@@ -26,12 +26,12 @@ of_side p theta basic e i (Some Up) h = sym h
 of_side p theta basic e i (Some Down) h = sym h
 of_side p theta basic e i (Some Basic) h = refl
 
-pub steady : ResponsesMayMove → (p : Problem Frac128) (s : Segment Frac128) → IsShown p s → IsSteady p s
+pub steady : ResponsesMayMove → (p : Problem Frac128) (s : Segment) → IsShown p s → IsSteady p s
 steady move p s shown y lie =
-    let b = value_at value s.vertex.coef in
+    let b = number_at s.vertex.coef in
     record {
       at_lo = move (sample value p) (printed s.lo) b (dual_at value p s.vertex s.basic_lo s.lo) (marked_side s) y shown.lo.feasible
-          (λ i l. of_side (sample value p) (printed s.lo) (basic_value value s.vertex s.basic_lo) (dual_at value p s.vertex s.basic_lo s.lo) i (slice_get s.vertex.sides i) refl) lie;
+          (λ i l. of_side (sample value p) (printed s.lo) (basic_value s.vertex s.basic_lo) (dual_at value p s.vertex s.basic_lo s.lo) i (slice_get s.vertex.sides i) refl) lie;
       at_hi = move (sample value p) (printed s.hi) b (dual_at value p s.vertex s.basic_hi s.hi) (marked_side s) y shown.hi.feasible
-          (λ i l. of_side (sample value p) (printed s.hi) (basic_value value s.vertex s.basic_hi) (dual_at value p s.vertex s.basic_hi s.hi) i (slice_get s.vertex.sides i) refl) lie;
+          (λ i l. of_side (sample value p) (printed s.hi) (basic_value s.vertex s.basic_hi) (dual_at value p s.vertex s.basic_hi s.hi) i (slice_get s.vertex.sides i) refl) lie;
     }

@@ -4,7 +4,7 @@ use Rattle.std.specs.List.{AllZip, range_with_len}
 use Rattle.std.proofs.lemmas.List.{length-append, length-map}
 use Rattle.std.proofs.lemmas.List.FromFn.{length-range_with_len}
 use Rattle.std.proofs.lemmas.List.Elements.{All-cons, All-nil}
-use Rattle.rational_laws.specs.Fraction.{rational}
+use Rattle.rational_laws.specs.Fraction.{Fraction, rational}
 use Rattle.rational_laws.specs.Rational.{ℚ}
 use Rattle.frac_core.specs.declared.frac128.Frac128.{Frac128}
 use Rattle.frac_core.specs.Values.{exact, value}
@@ -26,7 +26,7 @@ use Rattle.rank_walk_model.specs.Ends.{IsEndAt, IsHandedOut}
 use Rattle.rank_walk_model.specs.Intervals.{stated, statement}
 use Rattle.rank_walk_model.specs.RankWalks.{Way}
 use Rattle.rank_walk_model.proofs.Intervals.{conditions, stated_each}
-use Rattle.rq_engine.specs.Asked.{Asked}
+use Rattle.rank_inversion.specs.declared.column_test.Asked.{Asked}
 use Rattle.cert_text.specs.Laws.{SameContent}
 use Rattle.cert_text.specs.Limits.{IsWithinLimits}
 use Rattle.cert_text.specs.Trees.{cert_text}
@@ -54,10 +54,11 @@ use Rattle.run_laws.specs.Sound.{AreCosts, AreSound, IsSound, IsSoundEnding, IsS
 use Rattle.run_laws.proofs.All.{all_true}
 use Rattle.run_laws.proofs.Checking.{one_report, undecided}
 use Rattle.run_laws.proofs.Lengths.{HasEntries, cert_long}
+use Rattle.run_laws.proofs.Readable.{few_digits}
 
 -- ---- segments
 
-sound_segment : (p : Problem Frac128) (s : Segment Frac128) → IsRightSegment value p s → IsSoundSegment p s
+sound_segment : (p : Problem Frac128) (s : Segment) → IsRightSegment value p s → IsSoundSegment p s
 sound_segment p s h = record {
   vertex = h.vertex;
   at_lo = record { size = h.at_lo.basic; dual = h.at_lo.dual; lost = h.at_lo.lost };
@@ -65,7 +66,7 @@ sound_segment p s h = record {
 }
 
 -- a segment has a dual value and a coefficient, since the problem has a column
-sound_entries : (p : Problem Frac128) → IsWellShaped p → (s : Segment Frac128) → IsSoundSegment p s → HasEntries s
+sound_entries : (p : Problem Frac128) → IsWellShaped p → (s : Segment) → IsSoundSegment p s → HasEntries s
 sound_entries p shaped s h = (omega (arith, shaped.some, h.at_hi.size, h.vertex.size), omega (arith, shaped.some, h.vertex.coef))
 
 have_entries : (c : Cert) → IsSound c → All HasEntries c.segments
@@ -79,7 +80,7 @@ costs_of input p theta same costs =
 
 -- ---- intervals
 
-beyond_size : (p : Problem Frac128) (way : Way) (j : ℕ) (tau bound : ℚ) (at : ℕ → ℕ) (a : ℕ → ℕ → ℚ) (t u : ℚ) (k : ℕ) (d : Direction) (v : Vertex Frac128) (inside : List Frac128) (b : Bound Frac128) (e : Beyond Frac128)
+beyond_size : (p : Problem Frac128) (way : Way) (j : ℕ) (tau bound : ℚ) (at : ℕ → ℕ) (a : ℕ → ℕ → ℚ) (t u : ℚ) (k : ℕ) (d : Direction) (v : Vertex) (inside : List Fraction) (b : Bound Fraction) (e : Beyond)
     → length v.basis.rows ≡ p.columns → IsHandedOut value p way j tau bound at a t u k d v inside b e
     → (length inside ≡ p.columns) × (length (beyond_list e) ≡ p.columns)
 beyond_size p way j tau bound at a t u k d v inside (Finite x) (Outside f) size h = (h.1.size ∙ size, h.2.size ∙ size)
@@ -87,24 +88,24 @@ beyond_size p way j tau bound at a t u k d v inside Infinite (Ray r) size h = (h
 beyond_size p way j tau bound at a t u k d v inside (Finite x) (Ray r) size h = absurd h
 beyond_size p way j tau bound at a t u k d v inside Infinite (Outside f) size h = absurd h
 
-sound_ending : (p : Problem Frac128) (way : Way) (j : ℕ) (tau bound : ℚ) (basis : List ℕ) (t : ℚ) (end : End Frac128)
+sound_ending : (p : Problem Frac128) (way : Way) (j : ℕ) (tau bound : ℚ) (basis : List ℕ) (t : ℚ) (end : End)
     → AtBasis (sample value p) basis (λ a. IsEndAt value p way j tau bound basis a t end) → IsSoundEnding p end
 sound_ending p way j tau bound basis t end at =
     let h = at.holds in
     let sizes = beyond_size p way j tau bound (slice_index basis) at.a t h.u h.k h.d end.vertex end.inside end.bound end.beyond h.vertex.shape.size h.handed in
     record { vertex = h.vertex.shape; inside = sizes.0; beyond = sizes.1 }
 
-sound_interval : (p : Problem Frac128) (limit : ℕ) (asked : Asked Frac128) (r : Interval Frac128) → IsRightInterval value p limit asked r
-    → (factors : List Frac128) → r.projection ≡ Some factors → IsSoundInterval p (stated r factors)
+sound_interval : (p : Problem Frac128) (limit : ℕ) (asked : Asked Frac128) (r : Interval) → IsRightInterval value p limit asked r
+    → (factors : List Fraction) → r.projection ≡ Some factors → IsSoundInterval p (stated r factors)
 sound_interval p limit asked r h factors there = record {
   meets = (conditions value p r factors there h.lawful.lawful).0 h.lawful.conditions;
-  projection = subst (λ (o : Option (List Frac128)). IfSome o (λ list. length list ≡ p.columns)) there h.lawful.size;
+  projection = subst (λ (o : Option (List Fraction)). IfSome o (λ list. length list ≡ p.columns)) there h.lawful.size;
   low = sound_ending p _ _ _ _ _ _ r.low h.lawful.lawful.right.low;
   high = sound_ending p _ _ _ _ _ _ r.high h.lawful.lawful.right.high;
 }
 
-sound_intervals : (p : Problem Frac128) (limit : ℕ) (asked : List (Asked Frac128)) (rs : List (Interval Frac128)) (xs : List (IntervalProof Frac128)) → AreRightIntervals value p limit asked rs
-    → AllZip (λ r x. (factors : List Frac128) × (r.projection ≡ Some factors) × (x ≡ stated r factors)) rs xs → All (IsSoundInterval p) xs
+sound_intervals : (p : Problem Frac128) (limit : ℕ) (asked : List (Asked Frac128)) (rs : List Interval) (xs : List IntervalProof) → AreRightIntervals value p limit asked rs
+    → AllZip (λ r x. (factors : List Fraction) × (r.projection ≡ Some factors) × (x ≡ stated r factors)) rs xs → All (IsSoundInterval p) xs
 sound_intervals p limit [] [] [] h is = All-nil (IsSoundInterval p)
 sound_intervals p limit asked [] (x ∷ xs) h is = absurd is
 sound_intervals p limit asked (r ∷ rs) [] h is = absurd is
@@ -178,6 +179,7 @@ module _ (words : List (List ℕ)) (job : FitJob) (asked : IsJobOf words (jobs.C
           segments = omega (arith, small.short, cert_long cert (have_entries cert is_sound));
           intervals = omega (arith, many, zipped, few_asked certified.fit.problem.columns right.shaped.columns job.rank refl);
           sides = small.few;
+          digits = λ wide. few_digits cert small.readable;
         }
 
 pub written : SameContent → (words : List (List ℕ)) (job : FitJob) (bytes : List ℕ) (cert : Cert) → IsJobOf words (jobs.Certify job) → IsRight (jobs.Certify job) bytes (reports.Certificate cert) → Passes cert

@@ -13,6 +13,7 @@ use Rattle.loss_model.specs.StartStop.{IsStartSpill}
 use Rattle.port_io.specs.Counts.{Rose}
 use Rattle.port_io.specs.Told.{most_bytes}
 use Rattle.pivot_laws.specs.BoundLaws.{further_bases}
+use Rattle.stop_laws.specs.NeededStops.{DoesOverflow}
 use Rattle.tau_process.specs.Stops.{IsLimited}
 use Rattle.lambda_path.specs.Faults.{row_count}
 use Rattle.cert_text.specs.declared.cert.Cert.{Cert}
@@ -45,7 +46,7 @@ use Rattle.rq_words.specs.Requests.{Reads}
 use Rattle.rq_cli.specs.Outcomes.{Stream, IsRun, IsHalted}
 use Rattle.rq_cli.specs.declared.outcome.Outcome.{Outcome}
 use Rattle.rq_cli.specs.declared.outcome.Outcome.TheVariants.{Done, Refused, OutOfMemory, PivotLimit, Overflow, Rejected}
-use Rattle.run_laws.specs.NeededOutcomes.{AskFit, IsLimitedAt, OverflowsAt, WasInput, WasPath, WasPosed, WasRestricted, WasTested, table_bytes}
+use Rattle.run_laws.specs.NeededOutcomes.{AskFit, IsLimitedAt, WasInput, WasPath, WasPosed, WasRestricted, WasTested, table_bytes}
 
 -- no count of faults rose
 abbrev pub NoneRose : (source source' out out' err err' : Stream) → Type 0
@@ -72,7 +73,7 @@ pub record IsWellFormed (words : List (List ℕ)) (source : Stream) (bytes : Lis
 abbrev pub IsAnswer : List (List ℕ) → (source source' : Stream) → List ℕ → Outcome → Type 0
 IsAnswer words source source' bytes (Done report) = (job : Job) × IsJobOf words job × IsRight job bytes report
 IsAnswer words source source' bytes (PivotLimit place limit trail) = IsLimitedAt words source source' place limit trail
-IsAnswer words source source' bytes (Overflow place trail spill) = OverflowsAt place spill
+IsAnswer words source source' bytes (Overflow place trail spill) = DoesOverflow value most spill
 IsAnswer words source source' bytes (Refused (CertTooLong n)) = IsHalted words source source' (halts.Refused (CertTooLong n))
 IsAnswer words source source' bytes OutOfMemory = ⊤
 IsAnswer words source source' bytes _ = ⊥
@@ -218,7 +219,7 @@ CheckIsAnswered =
 -- some trail of the problem reaches the limit of the words
 abbrev pub IsLimitedProblem : FitJob → Problem Frac128 → Type 0
 IsLimitedProblem fit problem =
-    IsLimited {F = Frac128} value (sample value problem) (rational (value fit.lo)) (rational (value fit.hi)) fit.limit
+    IsLimited (sample value problem) (rational (value fit.lo)) (rational (value fit.hi)) fit.limit
 
 -- the place is the process
 abbrev pub IsAtProcess : Place → Type 0
@@ -283,13 +284,13 @@ parts_of other = 0
 -- where the limit is at least so many times these bases, it stops neither the process nor the interval
 abbrev pub AmpleLimitIsNeverReached : Type 0
 AmpleLimitIsNeverReached =
-    (words : List (List ℕ)) (source source' out out' err err' : Stream) (place : Place) (limit : ℕ) (trail : Trail Frac128)
+    (words : List (List ℕ)) (source source' out out' err err' : Stream) (place : Place) (limit : ℕ) (trail : Trail)
     → ((fit : FitJob) (problem : Problem Frac128) → WasPosed words source source' fit problem
     → (parts_of place * further_bases (sample value problem)) ≤ fit.limit)
     → ¬ IsRun words source source' out out' err err' (PivotLimit place limit trail)
 
 -- an operation in the start of the problem of a fit overflows
-abbrev pub StartOverflows : List (List ℕ) → (before now : Stream) → Trail Frac128 → Spill Frac128 → Type 0
+abbrev pub StartOverflows : List (List ℕ) → (before now : Stream) → Trail → Spill Frac128 → Type 0
 StartOverflows words before now trail spill =
     (fit : FitJob) × (input : Input) × WasInput words before now fit input × IsStartSpill value most input.problem trail spill
 

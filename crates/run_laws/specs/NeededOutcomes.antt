@@ -1,7 +1,7 @@
 -- Law. A run that stops for a limit, for dependent columns or for a certificate that is too long had to; what overflows is an
 -- operation on the printed operands.
-use Rattle.std.specs.Prelude.{◌≡◌, ◌⊎◌, ℕ, ◌*◌, ◌<◌, Bool, true, false, is_some, List, Some, ⊤}
-use Rattle.rational_laws.specs.Fraction.{rational}
+use Rattle.std.specs.Prelude.{◌≡◌, ◌⊎◌, ℕ, ◌*◌, ◌<◌, Bool, true, false, is_some, List, Some}
+use Rattle.rational_laws.specs.Fraction.{Fraction, rational}
 use Rattle.rational_laws.specs.Rational.{ℚ}
 use Rattle.frac_core.specs.declared.frac128.Frac128.{Frac128}
 use Rattle.frac_core.specs.Values.{value}
@@ -99,49 +99,44 @@ WasPosed words before now fit problem =
 
 -- the lawful trail of the problem has as many pivots as the limit of the words says, with one more left; and the limit is
 -- less than twice the bases after the first
-pub record ReachesItsLimit (fit : FitJob) (problem : Problem Frac128) (limit : ℕ) (trail : Trail Frac128) : Type 0 where
+pub record ReachesItsLimit (fit : FitJob) (problem : Problem Frac128) (limit : ℕ) (trail : Trail) : Type 0 where
   pub shown : limit ≡ fit.limit
-  pub reached : ReachesProcessLimit value (sample value problem) (rational (value fit.lo)) (rational (value fit.hi)) limit trail
+  pub reached : ReachesProcessLimit (sample value problem) (rational (value fit.lo)) (rational (value fit.hi)) limit trail
   pub below : limit < 2 * further_bases (sample value problem)
 
 -- the lawful trail of the interval of a column at a quantile has so many, with one more left, where the squared statistic is
 -- bounded by the critical value of the words; and the limit is less than three times the bases after the first
-pub record ReachesItsIntervalLimit (fit : FitJob) (problem : Problem Frac128) (column : ℕ) (tau : Frac128) (limit : ℕ) (trail : Trail Frac128) : Type 0 where
+pub record ReachesItsIntervalLimit (fit : FitJob) (problem : Problem Frac128) (column : ℕ) (tau : Frac128) (limit : ℕ) (trail : Trail) : Type 0 where
   pub shown : limit ≡ fit.limit
   pub rank : RankAsk
   pub asked : fit.rank ≡ Some rank
   pub bound : ℚ
   pub critical : IsBound value problem column (rational (value tau)) (rational (value rank.crit)) bound
-  pub reached : ReachesIntervalLimit value (sample value problem) (rational (value tau)) column bound limit trail
+  pub reached : ReachesIntervalLimit (sample value problem) (rational (value tau)) column bound limit trail
   pub below : limit < 3 * further_bases (sample value problem)
 
 -- the process or the interval that the place names reaches the limit
-abbrev pub ReachesLimitAt : Place → FitJob → Problem Frac128 → ℕ → Trail Frac128 → Type 0
+abbrev pub ReachesLimitAt : Place → FitJob → Problem Frac128 → ℕ → Trail → Type 0
 ReachesLimitAt places.Process fit problem limit trail = ReachesItsLimit fit problem limit trail
 ReachesLimitAt (places.Interval column tau) fit problem limit trail = ReachesItsIntervalLimit fit problem column tau limit trail
 ReachesLimitAt _ fit problem limit trail = ⊥
 
 -- the words and the bytes pose a problem that reaches its limit there
-abbrev pub IsLimitedAt : List (List ℕ) → (before now : Stream) → Place → ℕ → Trail Frac128 → Type 0
+abbrev pub IsLimitedAt : List (List ℕ) → (before now : Stream) → Place → ℕ → Trail → Type 0
 IsLimitedAt words before now place limit trail =
     (fit : FitJob) × (problem : Problem Frac128) × WasPosed words before now fit problem × ReachesLimitAt place fit problem limit trail
 
 -- PivotLimit comes only where a posed problem reaches its limit
 abbrev pub LimitIsNeeded : Type 0
 LimitIsNeeded =
-    (words : List (List ℕ)) (source source' out out' err err' : Stream) (place : Place) (limit : ℕ) (trail : Trail Frac128)
+    (words : List (List ℕ)) (source source' out out' err err' : Stream) (place : Place) (limit : ℕ) (trail : Trail)
     → IsRun words source source' out out' err err' (PivotLimit place limit trail) → IsLimitedAt words source source' place limit trail
-
--- the operation overflows; of one of a certificate's tests the cause itself says so
-abbrev pub OverflowsAt : Place → Spill Frac128 → Type 0
-OverflowsAt places.Check spill = ⊤
-OverflowsAt _ spill = DoesOverflow value most spill
 
 -- Overflow comes only with an operation that overflows
 abbrev pub OverflowIsNeeded : Type 0
 OverflowIsNeeded =
-    (words : List (List ℕ)) (source source' out out' err err' : Stream) (place : Place) (trail : Trail Frac128) (spill : Spill Frac128)
-    → IsRun words source source' out out' err err' (Overflow place trail spill) → OverflowsAt place spill
+    (words : List (List ℕ)) (source source' out out' err err' : Stream) (place : Place) (trail : Trail) (spill : Spill Frac128)
+    → IsRun words source source' out out' err err' (Overflow place trail spill) → DoesOverflow value most spill
 
 -- this is the whole input of a fit, or of a rank test with this fit
 abbrev pub WasWhole : List (List ℕ) → (before now : Stream) → FitJob → Input → Type 0
@@ -150,7 +145,7 @@ WasWhole words before now fit input = WasInput words before now fit input ⊎ ((
 -- Dependent comes only where the columns of the problem are dependent
 abbrev pub DependenceIsNeeded : Type 0
 DependenceIsNeeded =
-    (words : List (List ℕ)) (source source' out out' err err' : Stream) (combination : List Frac128)
+    (words : List (List ℕ)) (source source' out out' err err' : Stream) (combination : List Fraction)
     → IsRun words source source' out out' err err' (Refused (Dependent combination))
     → (fit : FitJob) × (input : Input) × WasWhole words source source' fit input × ¬ HasFullRank (sample value input.problem)
 

@@ -1,8 +1,8 @@
 -- Law. Where no other coefficients lose as little as those of a printed fit (Koenker 2005, section 2.2.2).
 use Rattle.std.specs.Prelude.{◌≡◌, ◌≢◌, ◌<◌, ℕ, List, All, pos}
 use Rattle.std.specs.List.{AllZip}
+use Rattle.rational_laws.specs.Fraction.{Fraction}
 use Rattle.rational_laws.specs.Rational.{whole}
-use Rattle.frac_core.specs.declared.frac128.Frac128.{Frac128}
 use Rattle.frac_core.specs.Values.{value}
 use Rattle.loss_model.specs.declared.process.Segment.{Segment}
 use Rattle.loss_model.specs.Problem.{sample}
@@ -18,11 +18,11 @@ use Rattle.run_laws.specs.Reports.{printed, OnFit, IsReadFit}
 use Rattle.run_laws.specs.LeastReports.{coefficients_in}
 
 -- no score of these pairs, at one end, is 0 or 1; and their rows are among the first n, the records
-abbrev pub AreInside : ℕ → (ScorePair Frac128 → Frac128) → List (ScorePair Frac128) → Type 0
+abbrev pub AreInside : ℕ → (ScorePair → Fraction) → List ScorePair → Type 0
 AreInside n end pairs = All (λ q. (q.row < n) × (printed (end q) ≢ whole (pos 0)) × (printed (end q) ≢ whole (pos 1))) pairs
 
 -- of no pair both scores are 0, or both are 1
-abbrev pub AreInsideBetween : ℕ → List (ScorePair Frac128) → Type 0
+abbrev pub AreInsideBetween : ℕ → List ScorePair → Type 0
 AreInsideBetween n pairs =
     All (λ q. (q.row < n)
     × ¬ ((printed q.at_lo ≡ whole (pos 0)) × (printed q.at_hi ≡ whole (pos 0)))
@@ -30,7 +30,7 @@ AreInsideBetween n pairs =
 
 module _ (R : OrderedRing) (fit : Fit) where
   -- at a quantile of the ring no other coefficients of it lose as little as the segment's
-  abbrev pub IsOnlyAt : Segment Frac128 → R.Number → Type 0
+  abbrev pub IsOnlyAt : Segment → R.Number → Type 0
   IsOnlyAt s theta =
       let p = sample value fit.problem in
       let b = coefficients_in R fit.problem s in
@@ -38,7 +38,7 @@ module _ (R : OrderedRing) (fit : Fit) where
 
   -- that is read off the printed scores: at an end where none is 0 or 1, and strictly between both where no pair is twice 0
   -- or twice 1
-  pub record IsOnlyBy (s : Segment Frac128) (pairs : List (ScorePair Frac128)) : Type 0 where
+  pub record IsOnlyBy (s : Segment) (pairs : List ScorePair) : Type 0 where
     pub at_lo : AreInside fit.data_rows (λ q. q.at_lo) pairs → IsOnlyAt s (R.fraction (printed s.lo))
     pub at_hi : AreInside fit.data_rows (λ q. q.at_hi) pairs → IsOnlyAt s (R.fraction (printed s.hi))
     pub between : AreInsideBetween fit.data_rows pairs

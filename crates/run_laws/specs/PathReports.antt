@@ -2,10 +2,9 @@
 use Rattle.std.specs.Prelude.{ℕ, ◌+◌, ◌<◌, ◌≤◌, List, All, length}
 use Rattle.rational_laws.specs.Fraction.{Fraction, rational}
 use Rattle.rational_laws.specs.Rational.{ℚ, ◌≤ℚ◌}
-use Rattle.frac_core.specs.declared.frac128.Frac128.{Frac128}
 use Rattle.frac_core.specs.Values.{exact, value}
 use Rattle.loss_model.specs.declared.process.Segment.{Segment}
-use Rattle.loss_model.specs.Problem.{sample, value_at}
+use Rattle.loss_model.specs.Problem.{sample, number_at}
 use Rattle.loss_model.specs.Segment.{of_segment}
 use Rattle.lambda_path.specs.Paths.{absolute_sum, path_loss}
 use Rattle.rq_words.specs.declared.job.Job.TheVariants as jobs
@@ -29,14 +28,14 @@ module _ (job : PathJob) (plain : PlainInput) where
   sum_of = absolute_sum (sample value plain.input.problem) (first_penalised plain.intercept)
 
   -- at every lambda of the segment its coefficients lose least
-  abbrev pub LosesLeast : Segment Frac128 → Type 0
+  abbrev pub LosesLeast : Segment → Type 0
   LosesLeast s =
-      (lambda : Fraction) (other : ℕ → ℚ) → 1 ≤ lambda.den → rational (value s.lo) ≤ℚ rational lambda → rational lambda ≤ℚ rational (value s.hi)
-      → loss_of (rational lambda) (value_at value s.vertex.coef) ≤ℚ loss_of (rational lambda) other
+      (lambda : Fraction) (other : ℕ → ℚ) → 1 ≤ lambda.den → rational s.lo ≤ℚ rational lambda → rational lambda ≤ℚ rational s.hi
+      → loss_of (rational lambda) (number_at s.vertex.coef) ≤ℚ loss_of (rational lambda) other
 
   -- the coefficients of segment j
-  abbrev pub coefficients : List (Segment Frac128) → ℕ → ℕ → ℚ
-  coefficients segments j k = of_segment segments (λ s. value_at value s.vertex.coef k) j
+  abbrev pub coefficients : List Segment → ℕ → ℕ → ℚ
+  coefficients segments j k = of_segment segments (λ s. number_at s.vertex.coef k) j
 
   -- they lose least in each segment, and their sum never rises from one to the next
   pub record IsLeastPath (fit : PathFit) : Type 0 where

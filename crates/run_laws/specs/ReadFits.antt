@@ -9,7 +9,7 @@ use Rattle.loss_model.specs.declared.problem.Problem.{Problem}
 use Rattle.loss_model.specs.declared.process.Segment.{Segment}
 use Rattle.loss_model.specs.Sample.{Sample, residual, Minimises}
 use Rattle.loss_model.specs.Complements.{IsComplementary}
-use Rattle.loss_model.specs.Problem.{sample, value_at}
+use Rattle.loss_model.specs.Problem.{sample, number_at}
 use Rattle.loss_model.specs.Segment.{of_segment, dual_at}
 use Rattle.quantile_laws.specs.Counts.{SplitsWeights, SplitsCounts, lies_below, lies_on, lies_above, is_up, is_down, is_basic, has_side}
 use Rattle.quantile_laws.specs.Monotonicity.{at_centroid}
@@ -27,7 +27,7 @@ abbrev pub TellMinima : Sample → ℚ → (ℕ → ℚ) → Type 0
 TellMinima p theta e = (c : ℕ → ℚ) → Minimises p theta c ↔ IsComplementary p theta (residual p c) e
 
 -- so do those of a segment, at both ends
-pub record HasMinima (p : Problem Frac128) (s : Segment Frac128) : Type 0 where
+pub record HasMinima (p : Problem Frac128) (s : Segment) : Type 0 where
   pub at_lo : TellMinima (sample value p) (printed s.lo) (dual_at value p s.vertex s.basic_lo s.lo)
   pub at_hi : TellMinima (sample value p) (printed s.hi) (dual_at value p s.vertex s.basic_hi s.hi)
 
@@ -46,13 +46,13 @@ module _ (fit : Fit) where
 
   -- at theta the records with the mark 0 weigh at most the part theta of all, and with those with the mark * at least that;
   -- likewise those with the mark 1, and what theta leaves of 1
-  abbrev pub MarksSplitAt : Segment Frac128 → ℚ → Type 0
+  abbrev pub MarksSplitAt : Segment → ℚ → Type 0
   MarksSplitAt s theta =
       let sides = s.vertex.sides in
       SplitsWeights observed fit.data_rows theta (has_side is_down sides) (has_side is_basic sides) (has_side is_up sides)
 
   -- the same of their numbers
-  abbrev pub MarkCountsSplitAt : Segment Frac128 → ℚ → Type 0
+  abbrev pub MarkCountsSplitAt : Segment → ℚ → Type 0
   MarkCountsSplitAt s theta =
       let sides = s.vertex.sides in
       SplitsCounts fit.data_rows theta (has_side is_down sides) (has_side is_basic sides) (has_side is_up sides)
@@ -64,7 +64,7 @@ module _ (fit : Fit) where
       → SplitsWeights observed fit.data_rows theta (lies_below observed c) (lies_on observed c) (lies_above observed c)
 
   -- so it is at both ends of a segment, and within it
-  pub record IsSplitSegment (weights : Option (List ℕ)) (s : Segment Frac128) : Type 0 where
+  pub record IsSplitSegment (weights : Option (List ℕ)) (s : Segment) : Type 0 where
     pub marks_lo : MarksSplitAt s (printed s.lo)
     pub marks_hi : MarksSplitAt s (printed s.hi)
     pub counts_lo : weights ≡ None → MarkCountsSplitAt s (printed s.lo)
@@ -74,7 +74,7 @@ module _ (fit : Fit) where
 
   -- what segment j predicts at the centroid of the records
   abbrev pub centroid_fit : ℕ → ℚ
-  centroid_fit j = at_centroid observed fit.data_rows (λ k. of_segment fit.process.segments (λ s. value_at value s.vertex.coef k) j)
+  centroid_fit j = at_centroid observed fit.data_rows (λ k. of_segment fit.process.segments (λ s. number_at s.vertex.coef k) j)
 
   -- it never falls from one segment to a later one
   abbrev pub CentroidRises : Type 0

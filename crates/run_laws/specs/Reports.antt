@@ -1,9 +1,8 @@
 -- Law. What a report has inside: segments, each with its problem, and in some a fit, which is of an input.
 use Rattle.std.specs.Prelude.{◌≡◌, ℕ, Bool, true, false, List, All, Option, Some, None, is_some, length, ⊤}
-use Rattle.rational_laws.specs.Fraction.{rational}
+use Rattle.rational_laws.specs.Fraction.{Fraction, rational}
 use Rattle.rational_laws.specs.Rational.{ℚ}
 use Rattle.frac_core.specs.declared.frac128.Frac128.{Frac128}
-use Rattle.frac_core.specs.Values.{value}
 use Rattle.loss_model.specs.declared.problem.Problem.{Problem}
 use Rattle.loss_model.specs.declared.process.Segment.{Segment}
 use Rattle.nested_test.specs.Restricted.{restricted_problem}
@@ -22,14 +21,14 @@ use Rattle.rq_engine.specs.Jobs.{sample_fit, sample_table}
 use Rattle.rq_cli.specs.Outcomes.{Stream, WereRead}
 
 -- a printed number
-abbrev pub printed : Frac128 → ℚ
-printed x = rational (value x)
+abbrev pub printed : Fraction → ℚ
+printed x = rational x
 
 -- ---- segments
 
 -- a fact of every segment of a report and its problem: that of a test is without the tested columns, and the parameter of a
 -- path is lambda
-abbrev pub OnSegments : (Problem Frac128 → Segment Frac128 → Type 0) → Job → List ℕ → Report → Type 0
+abbrev pub OnSegments : (Problem Frac128 → Segment → Type 0) → Job → List ℕ → Report → Type 0
 OnSegments P (jobs.Process job) bytes (reports.Process fit) = All (P fit.problem) fit.process.segments
 OnSegments P (jobs.Ranks job) bytes (reports.Ranks ranks) = All (P ranks.fit.problem) ranks.fit.process.segments
 OnSegments P (jobs.Certify job) bytes (reports.Certificate cert) = All (P cert.problem) cert.segments
@@ -43,7 +42,7 @@ OnSegments P (jobs.Sample job) bytes (reports.Sample fit) = All (P fit.problem) 
 OnSegments P _ bytes report = ⊥
 
 -- the words ask for a job and the source had bytes of which the report has such segments
-pub record HasSegments (words : List (List ℕ)) (source source' : Stream) (report : Report) (P : Problem Frac128 → Segment Frac128 → Type 0) : Type 0 where
+pub record HasSegments (words : List (List ℕ)) (source source' : Stream) (report : Report) (P : Problem Frac128 → Segment → Type 0) : Type 0 where
   pub job : Job
   pub bytes : List ℕ
   pub read : WereRead words source source' job bytes

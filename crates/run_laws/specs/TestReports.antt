@@ -3,7 +3,7 @@ use Rattle.std.specs.Prelude.{ℕ, List, length, pos, slice_index}
 use Rattle.rational_laws.specs.Fraction.{Fraction, rational}
 use Rattle.rational_laws.specs.Rational.{whole, ◌≤ℚ◌}
 use Rattle.frac_core.specs.Values.{value}
-use Rattle.loss_model.specs.Problem.{sample, value_at}
+use Rattle.loss_model.specs.Problem.{sample, number_at}
 use Rattle.nested_test.specs.Nested.{column_score, AreScores, IsNestedStatistic}
 use Rattle.nested_test.specs.Restricted.{restricted_problem}
 use Rattle.rq_words.specs.declared.job.Job.TheVariants as jobs
@@ -21,9 +21,9 @@ use Rattle.rq_cli.specs.declared.outcome.Outcome.TheVariants.{Done}
 pub record IsRightTest (job : TestJob) (input : Input) (fit : TestFit) : Type 0 where
   pub wilcoxon : List Fraction
   pub scored : AreScoredBy job.fit (restricted_problem job.tested input.problem) fit.process wilcoxon
-  pub scores : AreScores value input.problem job.tested (value_at (λ x. x) wilcoxon) fit.scores
+  pub scores : AreScores value input.problem job.tested (number_at wilcoxon) fit.scores
   pub statistic : IsNestedStatistic (sample value input.problem) (slice_index job.tested) (length job.tested)
-      (column_score (sample value input.problem) (value_at (λ x. x) wilcoxon)) (rational fit.statistic)
+      (column_score (sample value input.problem) (number_at wilcoxon)) (rational fit.statistic)
   pub sign : whole (pos 0) ≤ℚ rational fit.statistic
 
 -- a printed test is such a one of the input that the bytes are

@@ -31,8 +31,7 @@ pub fn needed()
 /// for that, or by an overflow of its process or of a path's costs, and never where the limit is ample. Where the columns
 /// of a fit are dependent, it stops for that, or by an overflow in the start. Where the bytes have a fault it is answered
 /// by none of these: such a refusal comes exactly where there is one. So a
-/// certificate whose conditions are all true is accepted, save for memory and an operation of a test that
-/// overflows. A generated table of full rank is answered as a job whose input is well formed: its bytes have no fault.
+/// certificate whose conditions are all true is accepted, save for memory. A generated table of full rank is answered as a job whose input is well formed: its bytes have no fault.
 /// So is a rank test, where all columns are independent and the tested ones leave one; and a path in lambda, of whose
 /// columns nothing is asked: with the penalties they are independent.
 pub fn complete()

@@ -12,5 +12,5 @@ mod tables;
 
 pub use draws::{CRITICAL, Parts, QUANTILES, draw, draw_table};
 pub use duals::Vertex;
-pub use losses::{Ends, after, before};
+pub use losses::{Bound, Ends, after, before};
 pub use tables::{Data, RankTest, Ratio, Row, Whole, rank_test};

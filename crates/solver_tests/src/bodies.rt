@@ -24,7 +24,7 @@ fn walked_from<'a, F: Exact>(
     begun: Progress<'a, F>,
     lo: F,
     hi: F,
-) -> Process<F>
+) -> Process
     requires ordered { rational (F.value lo) ≤ℚ rational (F.value hi) }
     requires costs_lo { HasCosts (sample_of F.value (place_of F.value begun.tableau)) (rational (F.value lo)) }
     requires costs_hi { HasCosts (sample_of F.value (place_of F.value begun.tableau)) (rational (F.value hi)) }
@@ -44,7 +44,7 @@ pub(crate) fn in_wholes<F: Exact>(
     alloc: Global,
     problem: &Problem<F>,
     (lo, hi): (F, F),
-) -> Process<F> {
+) -> Process {
     assert!(rt; is_shaped(problem));
     assert!(rt; is_ordered(lo, hi));
     assert!(rt; has_costs(problem, lo));
@@ -66,7 +66,7 @@ fn in_fractions<F: Exact>(
     alloc: Global,
     problem: &Problem<F>,
     (lo, hi): (F, F),
-) -> Process<F> {
+) -> Process {
     assert!(rt; is_shaped(problem));
     assert!(rt; is_ordered(lo, hi));
     assert!(rt; has_costs(problem, lo));
@@ -78,7 +78,7 @@ fn in_fractions<F: Exact>(
 }
 
 /// The digest of a process and how many steps it has.
-fn figures(process: &Process<Frac128>) -> (i128, usize) {
+fn figures(process: &Process) -> (i128, usize) {
     (digest_of(process), process.trail.steps.as_slice().len())
 }
 
@@ -87,7 +87,7 @@ pub(crate) fn expect_same(
     rt: &impl Abort,
     alloc: Global,
     problem: &Problem<Frac128>,
-    process: &Process<Frac128>,
+    process: &Process,
 ) {
     let range = (Frac128::zero(), Frac128::one());
     let wholes = in_wholes(rt, alloc, problem, range);

@@ -1,9 +1,9 @@
 //! All numbers of a walk as one.
 
-use frac_core::{Exact, Frac128};
 use loss_model::{Process, Segment};
+use ratio::Ratio;
 use std::num::Wrapping;
-use test_kit::ratio;
+use test_kit::short_parts;
 
 /// The numbers that were put to it, as the digits of one to the base 31, modulo 2^128.
 #[derive(Clone, Copy)]
@@ -16,15 +16,16 @@ impl Digest {
         self.sum = self.sum * Wrapping(31) + Wrapping(number);
     }
 
-    fn put_value(&mut self, value: Frac128) {
-        let (n, d) = ratio(value);
+    /// A number of more than 127 bits, which no digest of these tests has, stands as 0 over 0.
+    fn put_value(&mut self, value: &Ratio) {
+        let (n, d) = short_parts(value).unwrap_or((0, 0));
         self.put(n);
         self.put(d);
     }
 
-    fn put_values(&mut self, values: &[Frac128]) {
+    fn put_values(&mut self, values: &[Ratio]) {
         for value in values {
-            self.put_value(*value);
+            self.put_value(value);
         }
     }
 
@@ -37,20 +38,20 @@ impl Digest {
     }
 
     /// All numbers of a segment.
-    fn put_segment(&mut self, segment: &Segment<Frac128>) {
-        self.put_value(segment.lo);
-        self.put_value(segment.hi);
+    fn put_segment(&mut self, segment: &Segment) {
+        self.put_value(&segment.lo);
+        self.put_value(&segment.hi);
         self.put_rows(segment.vertex.basis.rows.as_slice());
         self.put_values(segment.vertex.coef.as_slice());
         self.put_values(segment.basic_lo.as_slice());
-        self.put_value(segment.loss_lo);
+        self.put_value(&segment.loss_lo);
         self.put_values(segment.basic_hi.as_slice());
-        self.put_value(segment.loss_hi);
+        self.put_value(&segment.loss_hi);
     }
 }
 
 /// The digest of the segments, one after another.
-pub(crate) fn digest_of(process: &Process<Frac128>) -> i128 {
+pub(crate) fn digest_of(process: &Process) -> i128 {
     let mut digest = Digest { sum: Wrapping(0) };
     for segment in process.segments.as_slice() {
         digest.put_segment(segment);

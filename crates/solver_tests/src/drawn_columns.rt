@@ -5,13 +5,13 @@
 
 use crate::bodies::in_wholes;
 use crate::digest::digest_of;
-use crate::helpers::{Ratio, data_row, expect, fraction, push, solve, walk};
+use crate::helpers::{Ratio, data_row, expect, fraction, push, short, solve, walk};
 use br_pivot::Solved;
 use frac_core::{Exact, Frac128, List};
 use loss_model::{Problem, Process, Row};
 use std::alloc::Global;
 use std::process::Abort;
-use test_kit::{draw, ratio};
+use test_kit::draw;
 
 /// A number from 100 to 999.
 fn drawn(state: &mut u32) -> Ratio {
@@ -95,7 +95,7 @@ const LOSS: Ratio = (
     55359008019870615168204574394,
 );
 
-fn median_process(rt: &impl Abort, alloc: Global) -> Process<Frac128> {
+fn median_process(rt: &impl Abort, alloc: Global) -> Process {
     let table = drawn_table(rt, alloc, 10);
     let half = fraction(rt, (1, 2));
     let answer = walk(rt, alloc, &table, (half, half), 1000);
@@ -112,11 +112,11 @@ fn ten_columns_as_a_process_at_the_median(rt: HostRuntime) {
     assert!(&rt; only.vertex.basis.rows.as_slice() == BASIS.as_slice());
     expect(&rt, &only.vertex.coef, COEF.as_slice());
     expect(&rt, &only.basic_hi, BASIC.as_slice());
-    assert!(&rt; ratio(only.loss_hi) == LOSS);
+    assert!(&rt; short(&rt, &only.loss_hi) == LOSS);
     drop(process);
 }
 
-fn whole_range(rt: &impl Abort, alloc: Global) -> Process<Frac128> {
+fn whole_range(rt: &impl Abort, alloc: Global) -> Process {
     let table = drawn_table(rt, alloc, 5);
     let process = in_wholes(rt, alloc, &table, (Frac128::zero(), Frac128::one()));
     drop(table);

@@ -1,14 +1,13 @@
 //! Walks over a range of quantiles on drawn problems, whose losses stand beside the least loss over all bases.
 
 use crate::bodies::{expect_no_start, expect_same};
-use crate::helpers::{Ratio, expect_dependent, make_problem, push, walk};
+use crate::helpers::{Answer, Ratio, expect_dependent, make_problem, push, short, walk};
 use crate::least_loss::{Fit, Loss, OVER, Small, draw_problem, fit_at, has_least_loss};
 use frac_core::{Exact, Frac128};
 use loss_model::{Exchange, Process, Segment};
 use std::alloc::Global;
 use std::num::Wrapping;
 use std::process::Abort;
-use test_kit::ratio;
 
 /// The loss of a fit at a quantile is the least over all bases.
 fn least_at(rt: &impl Abort, small: &mut Small, fit: &Fit, theta: Ratio) -> Loss {
@@ -22,21 +21,21 @@ fn least_at(rt: &impl Abort, small: &mut Small, fit: &Fit, theta: Ratio) -> Loss
 }
 
 /// The loss is this value, at a quantile over this denominator.
-fn expect_loss(rt: &impl Abort, loss: Loss, over: i128, value: Frac128) {
-    let (n, d) = ratio(value);
+fn expect_loss(rt: &impl Abort, loss: Loss, over: i128, value: &Answer) {
+    let (n, d) = short(rt, value);
     let scale = loss.over * Wrapping(OVER * OVER) * Wrapping(over);
     assert!(rt; loss.sum * Wrapping(d) == Wrapping(n) * scale);
 }
 
 /// The coefficients of a segment are optimal at both ends and in the middle, and its losses are right.
-fn expect_optimal(rt: &impl Abort, small: &mut Small, segment: &Segment<Frac128>) {
+fn expect_optimal(rt: &impl Abort, small: &mut Small, segment: &Segment) {
     let fit = fit_at(segment.vertex.coef.as_slice());
-    let (n, d) = ratio(segment.lo);
-    let (m, e) = ratio(segment.hi);
+    let (n, d) = short(rt, &segment.lo);
+    let (m, e) = short(rt, &segment.hi);
     let at_lo = least_at(rt, small, &fit, (n, d));
-    expect_loss(rt, at_lo, d, segment.loss_lo);
+    expect_loss(rt, at_lo, d, &segment.loss_lo);
     let at_hi = least_at(rt, small, &fit, (m, e));
-    expect_loss(rt, at_hi, e, segment.loss_hi);
+    expect_loss(rt, at_hi, e, &segment.loss_hi);
     let middle = (
         n.wrapping_mul(e).wrapping_add(m.wrapping_mul(d)),
         d.wrapping_mul(e).wrapping_mul(2),
@@ -45,36 +44,39 @@ fn expect_optimal(rt: &impl Abort, small: &mut Small, segment: &Segment<Frac128>
 }
 
 /// The segments go from 0 to 1 without a gap, and none is of one point.
-fn expect_cover(rt: &impl Abort, process: &Process<Frac128>) {
+fn expect_cover(rt: &impl Abort, process: &Process) {
     let mut now = (0, 1);
     for segment in process.segments.as_slice() {
-        assert!(rt; ratio(segment.lo) == now);
-        assert!(rt; segment.lo.compare(segment.hi).is_lt());
-        now = ratio(segment.hi);
+        let (n, d) = short(rt, &segment.lo);
+        let (m, e) = short(rt, &segment.hi);
+        assert!(rt; (n, d) == now);
+        assert!(rt; n.wrapping_mul(e) < m.wrapping_mul(d));
+        now = (m, e);
     }
     assert!(rt; now == (1, 1));
 }
 
 /// How many steps are at the quantile of the step before, after 0.
-fn count_together(steps: &[Exchange<Frac128>]) -> u32 {
+fn count_together(rt: &impl Abort, steps: &[Exchange]) -> u32 {
     let mut together = 0;
-    let mut last = Frac128::zero();
+    let mut last = (0, 1);
     for step in steps {
-        if step.theta.sign() > 0 && step.theta.compare(last).is_eq() {
+        let theta = short(rt, &step.theta);
+        if theta.0 > 0 && theta == last {
             together = u32::wrapping_add(together, 1);
         }
-        last = step.theta;
+        last = theta;
     }
     together
 }
 
 /// The segments of a walk are those of the least losses. Gives how many steps are at the quantile of the step before.
-fn together_in(rt: &impl Abort, small: &mut Small, process: &Process<Frac128>) -> u32 {
+fn together_in(rt: &impl Abort, small: &mut Small, process: &Process) -> u32 {
     expect_cover(rt, process);
     for segment in process.segments.as_slice() {
         expect_optimal(rt, small, segment);
     }
-    count_together(process.trail.steps.as_slice())
+    count_together(rt, process.trail.steps.as_slice())
 }
 
 /// The solve and the walk over 0 to 1 of a drawn problem have the least losses, in both bodies; where its columns are

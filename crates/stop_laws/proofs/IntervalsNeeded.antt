@@ -20,8 +20,8 @@ module _ {F : Type 0} (value : F → Fraction) (range : ℕ) (p : Problem F) (j 
   pub interval_needed : (stop : Stop F) → HasCosts (sample value p) tau → j < p.columns → IsIntervalStop value range p j tau crit limit stop → IsNeeded value range p (3 * further_bases (sample value p)) stop
   interval_needed OutOfMemory costs lj h = tt
   interval_needed (PivotLimit shown trail) costs lj h =
-      below (3 * further_bases (sample value p)) shown (ReachesIntervalLimit value (sample value p) tau j h.1.0 shown trail)
-      (subst (λ n. ReachesIntervalLimit value (sample value p) tau j h.1.0 n trail) (sym h.0) h.1.2)
-      (λ long. interval_within value (sample value p) tau j h.1.0 shown trail costs lj long)
+      below (3 * further_bases (sample value p)) shown (ReachesIntervalLimit (sample value p) tau j h.1.0 shown trail)
+      (subst (λ n. ReachesIntervalLimit (sample value p) tau j h.1.0 n trail) (sym h.0) h.1.2)
+      (λ long. interval_within (sample value p) tau j h.1.0 shown trail costs lj long)
   interval_needed (Overflow trail spill) costs lj h = of_interval value range spill p j tau crit limit trail h
   interval_needed (Dependent combination) costs lj h = dependent (sample value p) _ h.dependence

@@ -30,7 +30,7 @@ module _ {F : Type 0} (value : F → Fraction) (range : ℕ) (s : Spill F) where
   before_gram p (inl h) = operation value range s h.2.2
   before_gram p (inr h) = products value range s h.2.2
 
-  pub gram : (p : Problem F) (trail : Trail F) → IsGramSpillAfter value range p trail s → Here
+  pub gram : (p : Problem F) (trail : Trail) → IsGramSpillAfter value range p trail s → Here
   gram p trail (inl h) = before_gram (sample value p) h.1
   gram p trail (inr h) = start value range s h.0 trail h.2
 
@@ -73,11 +73,11 @@ module _ {F : Type 0} (value : F → Fraction) (range : ℕ) (s : Spill F) where
   ranked way p j tau bound at a from (of_square t k d next h) = operation value range s h
   ranked way p j tau bound at a from (of_ray t k d m next within none lm h) = operation value range s h
 
-  at_walk : (p : Problem F) (j : ℕ) (tau bound : ℚ) (solved : List ℕ) (trail : Trail F) → IsAtWalk value range p j tau bound solved trail s → Here
+  at_walk : (p : Problem F) (j : ℕ) (tau bound : ℚ) (solved : List ℕ) (trail : Trail) → IsAtWalk value range p j tau bound solved trail s → Here
   at_walk p j tau bound solved trail (inl h) = ranked _ (sample value p) j tau bound _ h.1.a _ h.1.holds
   at_walk p j tau bound solved trail (inr h) = ranked _ (sample value p) j tau bound _ h.1.a _ h.1.holds
 
-  pub of_interval : (p : Problem F) (j : ℕ) (tau crit : ℚ) (limit : ℕ) (trail : Trail F) → IsIntervalSpill value range p j tau crit limit trail s → Here
+  pub of_interval : (p : Problem F) (j : ℕ) (tau crit : ℚ) (limit : ℕ) (trail : Trail) → IsIntervalSpill value range p j tau crit limit trail s → Here
   of_interval p j tau crit limit trail (inl h) = gram p trail h
   of_interval p j tau crit limit trail (inr (inl h)) = test p j tau crit h.here
   of_interval p j tau crit limit trail (inr (inr (inl h))) = start value range s p trail h

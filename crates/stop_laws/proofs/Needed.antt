@@ -37,23 +37,23 @@ module _ {F : Type 0} (value : F → Fraction) (range : ℕ) (p : Problem F) whe
   pub solve_needed : (theta : ℚ) (limit : ℕ) (stop : Stop F) → HasCosts (sample value p) theta → IsSolveStop value range p theta limit stop → IsNeeded value range p (further_bases (sample value p)) stop
   solve_needed theta limit OutOfMemory costs h = tt
   solve_needed theta limit (PivotLimit shown trail) costs h =
-      below (further_bases (sample value p)) shown (ReachesLimit value (sample value p) theta shown trail) (subst (λ n. ReachesLimit value (sample value p) theta n trail) (sym h.0) h.1)
-      (λ long. solve_within value (sample value p) theta costs shown trail long)
+      below (further_bases (sample value p)) shown (ReachesLimit (sample value p) theta shown trail) (subst (λ n. ReachesLimit (sample value p) theta n trail) (sym h.0) h.1)
+      (λ long. solve_within (sample value p) theta costs shown trail long)
   solve_needed theta limit (Overflow trail spill) costs h = of_solve value range spill p theta limit trail h
   solve_needed theta limit (Dependent combination) costs h = dependent (sample value p) _ h.dependence
 
   pub process_needed : (lo hi : ℚ) (limit : ℕ) (stop : Stop F) → HasCosts (sample value p) lo → IsProcessStop value range p lo hi limit stop → IsNeeded value range p (2 * further_bases (sample value p)) stop
   process_needed lo hi limit OutOfMemory costs h = tt
   process_needed lo hi limit (PivotLimit shown trail) costs h =
-      below (2 * further_bases (sample value p)) shown (ReachesProcessLimit value (sample value p) lo hi shown trail) (subst (λ n. ReachesProcessLimit value (sample value p) lo hi n trail) (sym h.0) h.1)
-      (λ long. process_within value (sample value p) lo hi shown trail costs long)
+      below (2 * further_bases (sample value p)) shown (ReachesProcessLimit (sample value p) lo hi shown trail) (subst (λ n. ReachesProcessLimit (sample value p) lo hi n trail) (sym h.0) h.1)
+      (λ long. process_within (sample value p) lo hi shown trail costs long)
   process_needed lo hi limit (Overflow trail spill) costs h = of_process value range spill p lo hi limit trail h
   process_needed lo hi limit (Dependent combination) costs h = dependent (sample value p) _ h.dependence
 
-module _ {F : Type 0} (value : F → Fraction) (p : Sample) where
-  pub solve_full : (theta : ℚ) (limit : ℕ) (trail : Trail F) → ReachesLimit value p theta limit trail → HasFullRank p
+module _ (p : Sample) where
+  pub solve_full : (theta : ℚ) (limit : ℕ) (trail : Trail) → ReachesLimit p theta limit trail → HasFullRank p
   solve_full theta limit trail h = full_rank p (slice_index h.basis) h.more.a h.more.is_basis
 
-  pub process_full : (lo hi : ℚ) (limit : ℕ) (trail : Trail F) → ReachesProcessLimit value p lo hi limit trail → HasFullRank p
+  pub process_full : (lo hi : ℚ) (limit : ℕ) (trail : Trail) → ReachesProcessLimit p lo hi limit trail → HasFullRank p
   process_full lo hi limit trail (inl h) = solve_full lo limit trail h
   process_full lo hi limit trail (inr h) = full_rank p (slice_index h.basis) h.more.a h.more.is_basis

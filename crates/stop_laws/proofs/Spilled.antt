@@ -62,7 +62,7 @@ module _ {F : Type 0} (value : F → Fraction) (range : ℕ) (s : Spill F) where
   exchange n a x row r (inl h) = coordinates n a x row h
   exchange n a x row r (inr h) = entry n a x r h
 
-  pub start : (p : Problem F) (trail : Trail F) → IsStartSpill value range p trail s → Here
+  pub start : (p : Problem F) (trail : Trail) → IsStartSpill value range p trail s → Here
   start p trail h = by h.spill
     where
       by : IsRowEntrySpill value range (sample value p) trail.start h.a h.row s → Here
@@ -137,11 +137,11 @@ module _ {F : Type 0} (value : F → Fraction) (range : ℕ) (s : Spill F) where
 
   -- ---- of a solve and of a process
 
-  pub of_solve : (p : Problem F) (theta : ℚ) (limit : ℕ) (trail : Trail F) → IsStartSpill value range p trail s ⊎ IsSolveSpill value range p theta limit trail s → Here
+  pub of_solve : (p : Problem F) (theta : ℚ) (limit : ℕ) (trail : Trail) → IsStartSpill value range p trail s ⊎ IsSolveSpill value range p theta limit trail s → Here
   of_solve p theta limit trail (inl h) = start p trail h
   of_solve p theta limit trail (inr h) = step (sample value p) _ _ theta h.here.holds
 
-  pub of_process : (p : Problem F) (lo hi : ℚ) (limit : ℕ) (trail : Trail F) → IsProcessSpill value range p lo hi limit trail s → Here
+  pub of_process : (p : Problem F) (lo hi : ℚ) (limit : ℕ) (trail : Trail) → IsProcessSpill value range p lo hi limit trail s → Here
   of_process p lo hi limit trail (inl h) = start p trail h
   of_process p lo hi limit trail (inr (inl h)) = step (sample value p) _ _ lo h.here.holds
   of_process p lo hi limit trail (inr (inr h)) = stay (sample value p) _ _ _ _ h.here.holds

@@ -40,9 +40,9 @@ ProcessStopIsNeeded {F} value range p =
 -- where a trail of a solve reaches a limit, no columns are dependent: the limit is what stops it
 abbrev pub LimitedSolveHasFullRank : {F : Type 0} → (F → Fraction) → Problem F → Type 0
 LimitedSolveHasFullRank value p =
-    (theta : ℚ) (limit : ℕ) → IsLimited value (sample value p) theta limit → HasFullRank (sample value p)
+    (theta : ℚ) (limit : ℕ) → IsLimited (sample value p) theta limit → HasFullRank (sample value p)
 
 -- and where one of a process does
 abbrev pub LimitedProcessHasFullRank : {F : Type 0} → (F → Fraction) → Problem F → Type 0
 LimitedProcessHasFullRank value p =
-    (lo hi : ℚ) (limit : ℕ) → IsProcessLimited value (sample value p) lo hi limit → HasFullRank (sample value p)
+    (lo hi : ℚ) (limit : ℕ) → IsProcessLimited (sample value p) lo hi limit → HasFullRank (sample value p)

@@ -6,10 +6,10 @@
 //!
 //! `rq_engine` calls it so:
 //! ```text
-//! match make(alloc, job.number, job.rows, job.columns) {
-//!     Ok(table) => Ok(table),
-//!     Err(_) => Err(Halt::OutOfMemory),
-//! }
+//! let table = match make(alloc, job.number, job.rows, job.columns) {
+//!     Ok(table) => table,
+//!     Err(_) => return Err(Halt::OutOfMemory),
+//! };
 //! ```
 #![tactic(auto)]
 

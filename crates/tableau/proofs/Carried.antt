@@ -11,7 +11,7 @@ use Rattle.loss_model.specs.declared.process.Exchange.{Exchange}
 use Rattle.loss_model.specs.declared.process.Segment.{Segment}
 use Rattle.loss_model.specs.Sample.{Sample}
 use Rattle.loss_model.specs.Dual.{IsDual}
-use Rattle.loss_model.specs.Problem.{value_at, sample}
+use Rattle.loss_model.specs.Problem.{number_at, sample}
 use Rattle.basis_model.specs.Basis.{IsBasis, coefficient}
 use Rattle.pivot_model.specs.Duals.{HasCosts, dual}
 use Rattle.pivot_model.specs.Steps.{HasNoNegativeSlope}
@@ -41,9 +41,9 @@ last_put P xs x h =
     let place : length (xs ++ x ∷ []) - 1 ≡ length xs = omega (arith, length_push xs x) in
     subst (λ o. IfSome o P) (sym (ap (slice_get (xs ++ x ∷ [])) place ∙ pushed_last xs x)) h
 
-module _ {F : Type 0} (value : F → Fraction) (task : Task F) (lo hi : ℚ) (start : List ℕ) (steps : List (Exchange F)) (segments : List (Segment F)) (now : ℚ) (basis : List ℕ) (a b : ℕ → ℕ → ℚ) (x : Exchange F)
+module _ {F : Type 0} (value : F → Fraction) (task : Task F) (lo hi : ℚ) (start : List ℕ) (steps : List Exchange) (segments : List Segment) (now : ℚ) (basis : List ℕ) (a b : ℕ → ℕ → ℚ) (x : Exchange)
     (costs : HasCosts (sample value task.problem) lo) (costs' : HasCosts (sample value task.problem) hi) (u : IsUnderway value task.problem lo hi start steps segments now basis a)
-    (step : IsWalkingStep (over_quantiles (sample value task.problem)) (slice_index basis) a (is_below hi) now (rational (value x.theta)) x.position x.row)
+    (step : IsWalkingStep (over_quantiles (sample value task.problem)) (slice_index basis) a (is_below hi) now (rational x.theta) x.position x.row)
     (isb : IsBasis (sample value task.problem) (slice_index (slice_set basis x.position x.row)) b) where
   abbrev q : Sample
   q = sample value task.problem
@@ -52,7 +52,7 @@ module _ {F : Type 0} (value : F → Fraction) (task : Task F) (lo hi : ℚ) (st
   f = over_quantiles q
 
   abbrev t : ℚ
-  t = rational (value x.theta)
+  t = rational x.theta
 
   abbrev at : ℕ → ℕ
   at = slice_index basis
@@ -96,7 +96,7 @@ module _ {F : Type 0} (value : F → Fraction) (task : Task F) (lo hi : ℚ) (st
       ∙ dual_is q at a t i
 
   -- the segment of a stay has at its upper end what stands at its basis
-  pub carried_here : (s : Segment F) → IsSegmentOf value task.problem (record { basis = basis; lo = now; hi = t }) s → IsCarried value here t s
+  pub carried_here : (s : Segment) → IsSegmentOf value task.problem (record { basis = basis; lo = now; hi = t }) s → IsCarried value here t s
   carried_here s seg =
       record {
         size = stands.1.size ∙ sym stands.0.shape.size;
@@ -113,11 +113,11 @@ module _ {F : Type 0} (value : F → Fraction) (task : Task F) (lo hi : ℚ) (st
           subst (λ a. IsVertexAt value task.problem basis a s.vertex × AreBasicDuals value task.problem t basis a s.vertex s.basic_hi)
           (same_inverse q at seg.vertex.a a seg.vertex.is_basis u.is_basis seg.vertex.ends u.ends) (seg.vertex.holds.0, seg.vertex.holds.2)
 
-      written : IsDual q t (value_at value s.vertex.coef) (dual q at a t)
-      written = same_dual q t (coefficient q at a) (value_at value s.vertex.coef) (dual q at a t) (dual q at a t) stands.0.coef (λ i li. refl) dual_before
+      written : IsDual q t (number_at s.vertex.coef) (dual q at a t)
+      written = same_dual q t (coefficient q at a) (number_at s.vertex.coef) (dual q at a t) (dual q at a t) stands.0.coef (λ i li. refl) dual_before
 
   -- and what stands at the next basis
-  pub carried_on : (s : Segment F) → IsCarried value here t s → IsCarried value there t s
+  pub carried_on : (s : Segment) → IsCarried value here t s → IsCarried value there t s
   carried_on s c =
       record {
         size = c.size;

@@ -33,7 +33,7 @@ refused_weaker P Q h OutOfMemory k = tt
 refused_weaker P Q h (Of r) k = h r k
 
 -- what is refused before the trail has changed
-pub refusal_kept : {F : Type 0} (value : F → Fraction) (range : ℕ) (h : Place F) (asked : Question) (trail : Trail F) (e : Failure F)
+pub refusal_kept : {F : Type 0} (value : F → Fraction) (range : ℕ) (h : Place F) (asked : Question) (trail : Trail) (e : Failure F)
     → IsRefusedOf (IsRefusalAt value range h asked) e → IsRefusedOf (IsRefusal value range h asked trail trail) e
 refusal_kept value range h asked trail e k =
     refused_weaker (IsRefusalAt value range h asked) (IsRefusal value range h asked trail trail) (λ r is. record { kept = refl; refusal = is }) e k
@@ -41,7 +41,7 @@ refusal_kept value range h asked trail e k =
 module _ {F : Type 0} (value : F → Fraction) (range : ℕ) (task : Task F) (theta : ℚ) (limit : ℕ) (h : Place F)
     (same : h.task ≡ task) (is_place : IsPlace value h) where
   -- a refusal halts the solve
-  pub refusal_halts : (before after : Trail F) (e : Failure F) (halt : Halt F) → IsSolvingTrail value (sample_of value h) theta before h.rows → length before.steps ≤ limit
+  pub refusal_halts : (before after : Trail) (e : Failure F) (halt : Halt F) → IsSolvingTrail (sample_of value h) theta before h.rows → length before.steps ≤ limit
       → IsRefusedOf (IsRefusal value range h (solving theta) before after) e → IsHaltOf e after halt → IsHalted value range task theta limit halt
   refusal_halts before after OutOfMemory halt lawful short k is = subst (IsHalted value range task theta limit) (sym is) tt
   refusal_halts before after (Of r) halt lawful short k is =
@@ -50,16 +50,16 @@ module _ {F : Type 0} (value : F → Fraction) (range : ℕ) (task : Task F) (th
         here = h;
         same = same;
         is_place = is_place;
-        lawful = subst (λ t. IsSolvingTrail value (sample_of value h) theta t h.rows) (sym k.kept) lawful;
-        short = subst (λ (t : Trail F). length t.steps ≤ limit) (sym k.kept) short;
+        lawful = subst (λ t. IsSolvingTrail (sample_of value h) theta t h.rows) (sym k.kept) lawful;
+        short = subst (λ (t : Trail). length t.steps ≤ limit) (sym k.kept) short;
         refusal = k.refusal;
       })
 
   -- and so does a step that is left at the limit
-  pub limit_reached : (trail : Trail F) (j r : ℕ) → IsSolvingTrail value (sample_of value h) theta trail h.rows → length trail.steps ≡ limit
-      → IsSolvingStep (sample_of value h) (at_of h) h.inverse theta j r → ReachesLimit value (sample value task.problem) theta limit trail
+  pub limit_reached : (trail : Trail) (j r : ℕ) → IsSolvingTrail (sample_of value h) theta trail h.rows → length trail.steps ≡ limit
+      → IsSolvingStep (sample_of value h) (at_of h) h.inverse theta j r → ReachesLimit (sample value task.problem) theta limit trail
   limit_reached trail j r lawful counted step =
-      subst (λ (t : Task F). ReachesLimit value (sample value t.problem) theta limit trail) same
+      subst (λ (t : Task F). ReachesLimit (sample value t.problem) theta limit trail) same
       (record {
         basis = h.rows;
         lawful = lawful;
@@ -69,8 +69,8 @@ module _ {F : Type 0} (value : F → Fraction) (range : ℕ) (task : Task F) (th
 
 module _ {F : Type 0} (limit : ℕ) (D : Halt F → Type 0) where
   -- what holds of the stop of a halt, by the halt's cause
-  pub by_halt : (Q : Stop F → Type 0) → Q StopForMemory → ((trail : Trail F) → D (PivotLimit trail) → Q (StopAtLimit limit trail))
-      → ((trail : Trail F) (spill : Spill F) → D (Refused trail (Overflow spill)) → Q (StopByOverflow trail spill))
+  pub by_halt : (Q : Stop F → Type 0) → Q StopForMemory → ((trail : Trail) → D (PivotLimit trail) → Q (StopAtLimit limit trail))
+      → ((trail : Trail) (spill : Spill F) → D (Refused trail (Overflow spill)) → Q (StopByOverflow trail spill))
       → (h : Halt F) (s : Stop F) → stop_of limit h ≡ Some s → D h → Q s
   by_halt Q memory reached spilled NoMemory s e h = let same : StopForMemory ≡ s = cc e in subst Q same memory
   by_halt Q memory reached spilled (PivotLimit trail) s e h = let same : StopAtLimit limit trail ≡ s = cc e in subst Q same (reached trail h)
@@ -78,7 +78,7 @@ module _ {F : Type 0} (limit : ℕ) (D : Halt F → Type 0) where
   by_halt Q memory reached spilled (Refused trail TooWide) s e h = absurd (cc e)
 
 -- an overflow that halts a solve stops it
-pub overflow_stops : {F : Type 0} (value : F → Fraction) (range : ℕ) (task : Task F) (theta : ℚ) (limit : ℕ) (trail : Trail F) (s : Spill F) → IsRefusedAfter value range task theta limit trail (Overflow s)
+pub overflow_stops : {F : Type 0} (value : F → Fraction) (range : ℕ) (task : Task F) (theta : ℚ) (limit : ℕ) (trail : Trail) (s : Spill F) → IsRefusedAfter value range task theta limit trail (Overflow s)
     → IsSolveSpill value range task.problem theta limit trail s
 overflow_stops {F = F} value range task theta limit trail s h =
     subst (λ (x : Task F). IsSolveSpill value range x.problem theta limit trail s) h.same

@@ -9,7 +9,6 @@ use Rattle.rational_laws.specs.Rational.{ℚ, ◌≤ℚ◌}
 use Rattle.rational_laws.specs.Order.{cmp_ℚ}
 use Rattle.rational_laws.proofs.OrderLaws.{cmp_ℚ-Less, cmp_ℚ-Equal, cmp_ℚ-Greater}
 use Rattle.loss_model.specs.declared.problem.Problem.{Problem}
-use Rattle.loss_model.specs.declared.process.Exchange.{Exchange}
 use Rattle.loss_model.specs.declared.process.Segment.{Segment}
 use Rattle.loss_model.specs.declared.process.Trail.{Trail}
 use Rattle.loss_model.specs.Problem.{sample}
@@ -26,6 +25,7 @@ use Rattle.walk_model.specs.WalkTrails.{theta_value, is_below, HasWalkingStep, I
 use Rattle.walk_model.proofs.Loops.{begins, with_segment, without_segment, done}
 use Rattle.walk_model.proofs.Trails.{below_from}
 use Rattle.walk_model.proofs.Walked.{end_reached}
+use Rattle.tableau_model.specs.declared.answer.WalkingStep.{WalkingStep}
 use Rattle.tableau_model.specs.declared.refusal.Failure.{Failure}
 use Rattle.tableau_model.specs.declared.refusal.Failure.TheVariants.{OutOfMemory, Of}
 use Rattle.tableau_model.specs.Places.{Place, Task, at_of, sample_of}
@@ -38,7 +38,7 @@ use Rattle.tableau.specs.declared.solving.Progress.{Progress}
 use Rattle.tableau.specs.declared.walking.Walk.{Walk}
 use Rattle.tableau.specs.Bodies.{place_of}
 use Rattle.tableau.specs.Solving.{IsRefusal, IsHaltOf, IsSolved}
-use Rattle.tableau.specs.Walking.{now_of, here_of, IsLastCarried, AreSegmentsAfter, IsWalked, IsWalking, IsWalkedOut, IsWalkDone, IsWalkHalted}
+use Rattle.tableau.specs.Walking.{now_of, here_of, exchange_of, IsLastCarried, AreSegmentsAfter, IsWalked, IsWalking, IsWalkedOut, IsWalkDone, IsWalkHalted}
 use Rattle.tableau.proofs.Halts.{at_place}
 use Rattle.tableau.proofs.Carried.{some_weaker, last_put, carried_here, carried_on}
 
@@ -60,7 +60,7 @@ same_from_test x y h le = by (cmp_ℚ x y) refl h
     by Greater e h = absurd ((cmp_ℚ-Greater x y).0 e le)
 
 -- a walking step ends the stay at its basis
-pub step_ends : {F : Type 0} (value : F → Fraction) (h : Place F) (from hi : ℚ) (x : Exchange F) → IsStepTo value h from hi x → IsStayEnd (sample_of value h) (at_of h) h.inverse from hi (rational (value x.theta))
+pub step_ends : {F : Type 0} (value : F → Fraction) (h : Place F) (from hi : ℚ) (x : WalkingStep F) → IsStepTo value h from hi x → IsStayEnd (sample_of value h) (at_of h) h.inverse from hi (rational (value x.theta))
 step_ends value h from hi x step = inl (x.position, step.direction, step.break, below_from (rational (value x.theta)) hi step.within)
 
 -- an optimal basis is where a walk begins
@@ -87,8 +87,8 @@ walk_begins {F} value task hi limit u lo range h =
     to_task : (Q : Problem F → Type 0) → Q (place_of value u.tableau).task.problem → Q task.problem
     to_task Q k = subst (λ (t : Task F). Q t.problem) h.same k
 
-    trail : IsSolvingTrail value (sample value task.problem) (rational (value lo)) u.trail (place_of value u.tableau).rows
-    trail = to_task (λ p. IsSolvingTrail value (sample value p) (rational (value lo)) u.trail (place_of value u.tableau).rows) h.underway.lawful
+    trail : IsSolvingTrail (sample value task.problem) (rational (value lo)) u.trail (place_of value u.tableau).rows
+    trail = to_task (λ p. IsSolvingTrail (sample value p) (rational (value lo)) u.trail (place_of value u.tableau).rows) h.underway.lawful
 
     optimal : IsOptimalBasis (sample value task.problem) (rational (value lo)) (place_of value u.tableau).rows
     optimal =
@@ -116,7 +116,7 @@ module _ {F : Type 0} {value : F → Fraction} {task : Task F} {lo hi : ℚ} whe
   optimal_now w h = at_here w h (λ p. IsOptimalIn (over_quantiles (sample value p)) (at_of (here_of value w)) (here_of value w).inverse (now_of value w)) h.underway.optimal
 
   -- the trail of a walk is lawful
-  pub lawful_of : (w : Walk F) → IsWalking value task lo hi w → IsProcessTrail value (sample value task.problem) lo hi w.reached.trail (here_of value w).rows (now_of value w)
+  pub lawful_of : (w : Walk F) → IsWalking value task lo hi w → IsProcessTrail (sample value task.problem) lo hi w.reached.trail (here_of value w).rows (now_of value w)
   lawful_of w h =
       record {
         first = h.first;
@@ -141,10 +141,10 @@ module _ {F : Type 0} {value : F → Fraction} {task : Task F} {lo hi : ℚ} whe
         same = k.same ∙ h.same;
         first = h.first;
         solving = h.solving;
-        walked = h.walked ++ k.step ∷ [];
+        walked = h.walked ++ exchange_of value k.step ∷ [];
         begins = k.trail.start ∙ h.begins;
         greedy = h.greedy;
-        all = k.trail.steps ∙ ap (λ steps. steps ++ k.step ∷ []) h.all ∙ append_assoc h.solving h.walked (k.step ∷ []);
+        all = k.trail.steps ∙ ap (λ steps. steps ++ exchange_of value k.step ∷ []) h.all ∙ append_assoc h.solving h.walked (exchange_of value k.step ∷ []);
         solved = h.solved;
         optimal = h.optimal;
         underway = by k.segments;
@@ -165,36 +165,36 @@ module _ {F : Type 0} {value : F → Fraction} {task : Task F} {lo hi : ℚ} whe
       step = at_task before h (λ p. IsWalkingStep (over_quantiles (sample value p)) (at_of (here_of value before)) (here_of value before).inverse (is_below hi) (now_of value before)
           (rational (value k.step.theta)) k.step.position k.step.row) k.is_step
 
-      arrived : (segments : List (Segment F)) → after.segments ≡ segments
-          → IsUnderway value task.problem lo hi (basis_after h.first h.solving) (h.walked ++ k.step ∷ []) segments (rational (value k.step.theta)) (slice_set (here_of value before).rows k.step.position k.step.row)
+      arrived : (segments : List Segment) → after.segments ≡ segments
+          → IsUnderway value task.problem lo hi (basis_after h.first h.solving) (h.walked ++ exchange_of value k.step ∷ []) segments (rational (value k.step.theta)) (slice_set (here_of value before).rows k.step.position k.step.row)
           (here_of value after).inverse
-          → IsUnderway value task.problem lo hi (basis_after h.first h.solving) (h.walked ++ k.step ∷ []) after.segments (now_of value after) (here_of value after).rows (here_of value after).inverse
+          → IsUnderway value task.problem lo hi (basis_after h.first h.solving) (h.walked ++ exchange_of value k.step ∷ []) after.segments (now_of value after) (here_of value after).rows (here_of value after).inverse
       arrived segments e u =
-          subst (λ segs. IsUnderway value task.problem lo hi (basis_after h.first h.solving) (h.walked ++ k.step ∷ []) segs (now_of value after) (here_of value after).rows (here_of value after).inverse) (sym e)
-          (subst (λ now. IsUnderway value task.problem lo hi (basis_after h.first h.solving) (h.walked ++ k.step ∷ []) segments now (here_of value after).rows (here_of value after).inverse) (sym (ap (λ (x : F). rational (value x)) k.now))
-          (subst (λ rows. IsUnderway value task.problem lo hi (basis_after h.first h.solving) (h.walked ++ k.step ∷ []) segments (rational (value k.step.theta)) rows (here_of value after).inverse) (sym k.rows) u))
+          subst (λ segs. IsUnderway value task.problem lo hi (basis_after h.first h.solving) (h.walked ++ exchange_of value k.step ∷ []) segs (now_of value after) (here_of value after).rows (here_of value after).inverse) (sym e)
+          (subst (λ now. IsUnderway value task.problem lo hi (basis_after h.first h.solving) (h.walked ++ exchange_of value k.step ∷ []) segments now (here_of value after).rows (here_of value after).inverse) (sym (ap (λ (x : F). rational (value x)) k.now))
+          (subst (λ rows. IsUnderway value task.problem lo hi (basis_after h.first h.solving) (h.walked ++ exchange_of value k.step ∷ []) segments (rational (value k.step.theta)) rows (here_of value after).inverse) (sym k.rows) u))
 
       by : AreSegmentsAfter value (here_of value before) (now_of value before) (rational (value k.step.theta)) before.segments after.segments
-          → IsUnderway value task.problem lo hi (basis_after h.first h.solving) (h.walked ++ k.step ∷ []) after.segments (now_of value after) (here_of value after).rows (here_of value after).inverse
+          → IsUnderway value task.problem lo hi (basis_after h.first h.solving) (h.walked ++ exchange_of value k.step ∷ []) after.segments (now_of value after) (here_of value after).rows (here_of value after).inverse
       by (inl (s, less, seg, e)) =
           arrived (before.segments ++ s ∷ []) e
-          (with_segment value task.problem lo hi (basis_after h.first h.solving) h.walked before.segments (now_of value before) (here_of value before).rows (here_of value before).inverse (here_of value after).inverse k.step
+          (with_segment value task.problem lo hi (basis_after h.first h.solving) h.walked before.segments (now_of value before) (here_of value before).rows (here_of value before).inverse (here_of value after).inverse (exchange_of value k.step)
           costs costs' h.underway step is_basis ends s less
           (at_task before h (λ p. IsSegmentOf value p (record { basis = (here_of value before).rows; lo = now_of value before; hi = rational (value k.step.theta) }) s) seg))
       by (inr (same, e)) =
           arrived before.segments e
-          (without_segment value task.problem lo hi (basis_after h.first h.solving) h.walked before.segments (now_of value before) (here_of value before).rows (here_of value before).inverse (here_of value after).inverse k.step
+          (without_segment value task.problem lo hi (basis_after h.first h.solving) h.walked before.segments (now_of value before) (here_of value before).rows (here_of value before).inverse (here_of value after).inverse (exchange_of value k.step)
           costs costs' h.underway step is_basis ends same)
 
       -- what is carried to the quantile of the step is carried over the step
-      over : (s : Segment F) → IsCarried value (record { task = task; rows = (here_of value before).rows; inverse = (here_of value before).inverse }) (rational (value k.step.theta)) s
+      over : (s : Segment) → IsCarried value (record { task = task; rows = (here_of value before).rows; inverse = (here_of value before).inverse }) (rational (value k.step.theta)) s
           → IsCarried value (here_of value after) (now_of value after) s
       over s c =
           subst (λ (j : Task F). IsCarried value (record { task = j; rows = (here_of value after).rows; inverse = (here_of value after).inverse }) (now_of value after) s) (sym (k.same ∙ h.same))
           (subst (λ rows. IsCarried value (record { task = task; rows = rows; inverse = (here_of value after).inverse }) (now_of value after) s) (sym k.rows)
           (subst (λ now. IsCarried value (record { task = task; rows = slice_set (here_of value before).rows k.step.position k.step.row; inverse = (here_of value after).inverse }) now s)
           (sym (ap (λ (x : F). rational (value x)) k.now))
-          (carried_on value task lo hi (basis_after h.first h.solving) h.walked before.segments (now_of value before) (here_of value before).rows (here_of value before).inverse (here_of value after).inverse k.step
+          (carried_on value task lo hi (basis_after h.first h.solving) h.walked before.segments (now_of value before) (here_of value before).rows (here_of value before).inverse (here_of value after).inverse (exchange_of value k.step)
           costs costs' h.underway step is_basis s c)))
 
       carried_by : AreSegmentsAfter value (here_of value before) (now_of value before) (rational (value k.step.theta)) before.segments after.segments
@@ -202,7 +202,7 @@ module _ {F : Type 0} {value : F → Fraction} {task : Task F} {lo hi : ℚ} whe
       carried_by (inl (s, less, seg, e)) =
           subst (IsLastCarried value (here_of value after) (now_of value after)) (sym e)
           (last_put (IsCarried value (here_of value after) (now_of value after)) before.segments s
-          (over s (carried_here value task lo hi (basis_after h.first h.solving) h.walked before.segments (now_of value before) (here_of value before).rows (here_of value before).inverse (here_of value after).inverse k.step
+          (over s (carried_here value task lo hi (basis_after h.first h.solving) h.walked before.segments (now_of value before) (here_of value before).rows (here_of value before).inverse (here_of value after).inverse (exchange_of value k.step)
           costs costs' h.underway step is_basis s
           (at_task before h (λ p. IsSegmentOf value p (record { basis = (here_of value before).rows; lo = now_of value before; hi = rational (value k.step.theta) }) s) seg))))
       carried_by (inr (same, e)) =
@@ -213,7 +213,7 @@ module _ {F : Type 0} {value : F → Fraction} {task : Task F} {lo hi : ℚ} whe
           (slice_get before.segments (length before.segments - 1)) h.carried)
 
   -- a refusal halts the walk
-  pub walk_refused : (range limit : ℕ) (w : Walk F) (after : Trail F) (e : Failure F) (halt : Halt F) → IsWalking value task lo hi w → length w.reached.trail.steps ≤ limit
+  pub walk_refused : (range limit : ℕ) (w : Walk F) (after : Trail) (e : Failure F) (halt : Halt F) → IsWalking value task lo hi w → length w.reached.trail.steps ≤ limit
       → IsRefusedOf (IsRefusal value range (here_of value w) (walking (now_of value w) hi) w.reached.trail after) e → IsHaltOf e after halt → IsWalkHalted value range task lo hi limit halt
   walk_refused range limit w after OutOfMemory halt h short k is = subst (IsWalkHalted value range task lo hi limit) (sym is) tt
   walk_refused range limit w after (Of r) halt h short k is =
@@ -223,22 +223,22 @@ module _ {F : Type 0} {value : F → Fraction} {task : Task F} {lo hi : ℚ} whe
         now = now_of value w;
         same = h.same;
         is_place = h.is_place;
-        lawful = subst (λ t. IsProcessTrail value (sample_of value (here_of value w)) lo hi t (here_of value w).rows (now_of value w)) (sym k.kept)
-            (at_here w h (λ p. IsProcessTrail value (sample value p) lo hi w.reached.trail (here_of value w).rows (now_of value w)) (lawful_of w h));
-        short = subst (λ (t : Trail F). length t.steps ≤ limit) (sym k.kept) short;
+        lawful = subst (λ t. IsProcessTrail (sample_of value (here_of value w)) lo hi t (here_of value w).rows (now_of value w)) (sym k.kept)
+            (at_here w h (λ p. IsProcessTrail (sample value p) lo hi w.reached.trail (here_of value w).rows (now_of value w)) (lawful_of w h));
+        short = subst (λ (t : Trail). length t.steps ≤ limit) (sym k.kept) short;
         refusal = k.refusal;
       })
 
   -- and so does a step that is left at the limit
-  pub limit_walked : (limit : ℕ) (w : Walk F) (x : Exchange F) → IsWalking value task lo hi w → length w.reached.trail.steps ≡ limit → IsStepTo value (here_of value w) (now_of value w) hi x
-      → ReachesWalkLimit value (sample value task.problem) lo hi limit w.reached.trail
+  pub limit_walked : (limit : ℕ) (w : Walk F) (x : WalkingStep F) → IsWalking value task lo hi w → length w.reached.trail.steps ≡ limit → IsStepTo value (here_of value w) (now_of value w) hi x
+      → ReachesWalkLimit (sample value task.problem) lo hi limit w.reached.trail
   limit_walked limit w x h counted step =
       record {
         basis = (here_of value w).rows;
         now = now_of value w;
         lawful = lawful_of w h;
         count = counted;
-        more = at_task w h (λ p. HasWalkingStep (theta_value value) (over_quantiles (sample value p)) (is_below hi) (now_of value w) (here_of value w).rows)
+        more = at_task w h (λ p. HasWalkingStep theta_value (over_quantiles (sample value p)) (is_below hi) (now_of value w) (here_of value w).rows)
             (at_place value (here_of value w) h.is_place (λ a. (t : ℚ) × (j : ℕ) × (r : ℕ) × IsWalkingStep (over_quantiles (sample_of value (here_of value w))) (at_of (here_of value w)) a (is_below hi) (now_of value w) t j r)
             (rational (value x.theta), x.position, x.row, step));
       }
@@ -253,7 +253,7 @@ module _ {F : Type 0} {value : F → Fraction} {task : Task F} {lo hi : ℚ} whe
         }
 
     -- and its segment is the last one
-    pub walk_done : (s : Segment F) (segments : List (Segment F)) → IsSegmentHere value (here_of value w) (now_of value w) hi s → segments ≡ w.segments ++ s ∷ []
+    pub walk_done : (s : Segment) (segments : List Segment) → IsSegmentHere value (here_of value w) (now_of value w) hi s → segments ≡ w.segments ++ s ∷ []
         → IsWalkDone value task lo hi limit (record { segments = segments; trail = w.reached.trail })
     unfolding lawful_of
     walk_done s segments seg e =
@@ -261,9 +261,9 @@ module _ {F : Type 0} {value : F → Fraction} {task : Task F} {lo hi : ℚ} whe
           basis = (here_of value w).rows;
           now = now_of value w;
           lawful = lawful_of w h.walking;
-          ended = at_task w h.walking (λ p. IsWalkEnd (theta_value value) (over_quantiles (sample value p)) (is_below hi) (now_of value w) (here_of value w).rows)
+          ended = at_task w h.walking (λ p. IsWalkEnd theta_value (over_quantiles (sample value p)) (is_below hi) (now_of value w) (here_of value w).rows)
               (at_place value (here_of value w) h.walking.is_place (λ a. (t : ℚ) (j r : ℕ) → ¬ IsWalkingStep (over_quantiles (sample_of value (here_of value w))) (at_of (here_of value w)) a (is_below hi) (now_of value w) t j r) h.still);
-          segments = subst (AreSegmentsOf value task.problem (filter (is_reported lo hi) (stays (theta_value value) hi lo (basis_after h.walking.first h.walking.solving) h.walking.walked))) (sym e)
+          segments = subst (AreSegmentsOf value task.problem (filter (is_reported lo hi) (stays theta_value hi lo (basis_after h.walking.first h.walking.solving) h.walking.walked))) (sym e)
               (done value task.problem lo hi (basis_after h.walking.first h.walking.solving) h.walking.walked w.segments (now_of value w) (here_of value w).rows (here_of value w).inverse s h.walking.underway
               (at_task w h.walking (λ p. IsSegmentOf value p (record { basis = (here_of value w).rows; lo = now_of value w; hi = hi }) s) seg));
           short = h.short;

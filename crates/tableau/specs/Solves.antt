@@ -15,10 +15,10 @@ use Rattle.pivot_model.specs.Spills.{IsStepSpill}
 use Rattle.pivot_model.specs.Trails.{AtBasis, IsSolvingTrail, ReachesLimit}
 
 -- an operation at the last basis of the lawful trail overflows
-pub record IsSolveSpill {F : Type 0} (value : F → Fraction) (range : ℕ) (p : Problem F) (theta : ℚ) (limit : ℕ) (trail : Trail F)
+pub record IsSolveSpill {F : Type 0} (value : F → Fraction) (range : ℕ) (p : Problem F) (theta : ℚ) (limit : ℕ) (trail : Trail)
     (spill : Spill F) : Type 0 where
   pub basis : List ℕ
-  pub lawful : IsSolvingTrail value (sample value p) theta trail basis
+  pub lawful : IsSolvingTrail (sample value p) theta trail basis
   pub short : length trail.steps ≤ limit
   pub here : AtBasis (sample value p) basis (λ a. IsStepSpill value range (sample value p) (slice_index basis) a theta spill)
 
@@ -27,14 +27,14 @@ pub record IsSolveSpill {F : Type 0} (value : F → Fraction) (range : ℕ) (p :
 abbrev pub IsSolveStop : {F : Type 0} → (F → Fraction) → ℕ → Problem F → ℚ → ℕ → Stop F → Type 0
 IsSolveStop value range p theta limit OutOfMemory = Unit {0}
 IsSolveStop value range p theta limit (PivotLimit shown trail) =
-    (shown ≡ limit) × ReachesLimit value (sample value p) theta limit trail
+    (shown ≡ limit) × ReachesLimit (sample value p) theta limit trail
 IsSolveStop value range p theta limit (Overflow trail spill) =
     IsStartSpill value range p trail spill ⊎ IsSolveSpill value range p theta limit trail spill
 IsSolveStop value range p theta limit (Dependent combination) = IsDependent value p combination
 
 -- some trail reaches the limit
-abbrev pub IsLimited : {F : Type 0} → (F → Fraction) → Sample → ℚ → ℕ → Type 0
-IsLimited {F} value p theta limit = (trail : Trail F) × ReachesLimit value p theta limit trail
+abbrev pub IsLimited : Sample → ℚ → ℕ → Type 0
+IsLimited p theta limit = (trail : Trail) × ReachesLimit p theta limit trail
 
 -- an answer where a trail reaches the limit: PivotLimit, or an overflow or want of memory before
 abbrev pub IsLimitAnswer : {A F : Type 0} → Result A (Stop F) → Type 0

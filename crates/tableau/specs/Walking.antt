@@ -14,6 +14,7 @@ use Rattle.walk_model.specs.Families.{over_quantiles}
 use Rattle.walk_model.specs.Stays.{stays, is_reported, AreSegmentsOf}
 use Rattle.walk_model.specs.Underway.{IsUnderway}
 use Rattle.walk_model.specs.WalkTrails.{theta_value, is_below, IsProcessTrail, IsWalkEnd, ReachesWalkLimit}
+use Rattle.tableau_model.specs.declared.answer.WalkingStep.{WalkingStep}
 use Rattle.tableau_model.specs.declared.refusal.Refusal.{Refusal}
 use Rattle.tableau_model.specs.Places.{Place, Task, IsPlace, sample_of}
 use Rattle.tableau_model.specs.Questions.{walking}
@@ -26,7 +27,7 @@ use Rattle.tableau.specs.declared.walking.Walk.{Walk}
 use Rattle.tableau.specs.Bodies.{place_of}
 
 -- the trail with one more step
-pub record IsLonger {F : Type 0} (before after : Trail F) (x : Exchange F) : Type 0 where
+pub record IsLonger (before after : Trail) (x : Exchange) : Type 0 where
   pub start : after.start ≡ before.start
   pub steps : after.steps ≡ before.steps ++ x ∷ []
   pub rise : after.rise ≡ before.rise
@@ -40,25 +41,29 @@ module _ {F : Type 0} (value : F → Fraction) where
   abbrev pub here_of : Walk F → Place F
   here_of w = place_of value w.reached.tableau
 
+  -- a walking step as a trail has it
+  abbrev pub exchange_of : WalkingStep F → Exchange
+  exchange_of x = record { theta = value x.theta; position = x.position; row = x.row }
+
   -- the last of the segments, if there is one, has at its upper end what stands at the place at t
-  abbrev pub IsLastCarried : Place F → ℚ → List (Segment F) → Type 0
+  abbrev pub IsLastCarried : Place F → ℚ → List Segment → Type 0
   IsLastCarried h t segments = IfSome (slice_get segments (length segments - 1)) (IsCarried value h t)
 
   -- the segments after a stay: one more where its ends differ
-  abbrev pub AreSegmentsAfter : Place F → ℚ → ℚ → List (Segment F) → List (Segment F) → Type 0
+  abbrev pub AreSegmentsAfter : Place F → ℚ → ℚ → List Segment → List Segment → Type 0
   AreSegmentsAfter h from to before after =
-      ((s : Segment F) × (from <ℚ to) × IsSegmentHere value h from to s × (after ≡ before ++ s ∷ []))
+      ((s : Segment) × (from <ℚ to) × IsSegmentHere value h from to s × (after ≡ before ++ s ∷ []))
       ⊎ ((from ≡ to) × (after ≡ before))
 
   -- a step below hi is made
   pub record IsWalked (hi : ℚ) (before after : Walk F) : Type 0 where
-    pub step : Exchange F
+    pub step : WalkingStep F
     pub is_step : IsStepTo value (here_of before) (now_of before) hi step
     pub is_place : IsPlace value (here_of after)
     pub same : (here_of after).task ≡ (here_of before).task
     pub rows : (here_of after).rows ≡ slice_set (here_of before).rows step.position step.row
     pub now : after.now ≡ step.theta
-    pub trail : IsLonger before.reached.trail after.reached.trail step
+    pub trail : IsLonger before.reached.trail after.reached.trail (exchange_of step)
     pub segments : AreSegmentsAfter (here_of before) (now_of before) (rational (value step.theta)) before.segments after.segments
 
   -- a step is made, or none is left
@@ -73,12 +78,12 @@ module _ {F : Type 0} (value : F → Fraction) where
     pub is_place : IsPlace value (here_of w)
     pub same : (here_of w).task ≡ task
     pub first : List ℕ
-    pub solving : List (Exchange F)
-    pub walked : List (Exchange F)
+    pub solving : List Exchange
+    pub walked : List Exchange
     pub begins : w.reached.trail.start ≡ map Some first
     pub greedy : IsGreedyBasis (sample value task.problem) first
     pub all : w.reached.trail.steps ≡ solving ++ walked
-    pub solved : AreSolvingSteps value (sample value task.problem) lo first solving
+    pub solved : AreSolvingSteps (sample value task.problem) lo first solving
     pub optimal : IsOptimalBasis (sample value task.problem) lo (basis_after first solving)
     pub underway : IsUnderway value task.problem lo hi (basis_after first solving) walked w.segments (now_of w) (here_of w).rows (here_of w).inverse
     pub carried : IsLastCarried (here_of w) (now_of w) w.segments
@@ -92,27 +97,27 @@ module _ {F : Type 0} (value : F → Fraction) where
     pub short : length w.reached.trail.steps ≤ limit
 
   -- the lawful trail, within the limit, is at its end, and the segments are those of the stays of its walk
-  pub record IsWalkDone (task : Task F) (lo hi : ℚ) (limit : ℕ) (q : Process F) : Type 0 where
+  pub record IsWalkDone (task : Task F) (lo hi : ℚ) (limit : ℕ) (q : Process) : Type 0 where
     pub basis : List ℕ
     pub now : ℚ
-    pub lawful : IsProcessTrail value (sample value task.problem) lo hi q.trail basis now
-    pub ended : IsWalkEnd (theta_value value) (over_quantiles (sample value task.problem)) (is_below hi) now basis
+    pub lawful : IsProcessTrail (sample value task.problem) lo hi q.trail basis now
+    pub ended : IsWalkEnd theta_value (over_quantiles (sample value task.problem)) (is_below hi) now basis
     pub segments : AreSegmentsOf value task.problem (filter (is_reported lo hi)
-        (stays (theta_value value) hi lo (basis_after lawful.first lawful.solving) lawful.walking)) q.segments
+        (stays theta_value hi lo (basis_after lawful.first lawful.solving) lawful.walking)) q.segments
     pub short : length q.trail.steps ≤ limit
 
   -- a lawful trail within the limit leads to a place of the task at which the question of a walk is refused
-  pub record IsWalkRefusedAfter (range : ℕ) (task : Task F) (lo hi : ℚ) (limit : ℕ) (trail : Trail F) (r : Refusal F) : Type 0 where
+  pub record IsWalkRefusedAfter (range : ℕ) (task : Task F) (lo hi : ℚ) (limit : ℕ) (trail : Trail) (r : Refusal F) : Type 0 where
     pub here : Place F
     pub now : ℚ
     pub same : here.task ≡ task
     pub is_place : IsPlace value here
-    pub lawful : IsProcessTrail value (sample_of value here) lo hi trail here.rows now
+    pub lawful : IsProcessTrail (sample_of value here) lo hi trail here.rows now
     pub short : length trail.steps ≤ limit
     pub refusal : IsRefusalAt value range here (walking now hi) r
 
   -- why a walk halts: want of memory is free of a cause
   abbrev pub IsWalkHalted : ℕ → Task F → ℚ → ℚ → ℕ → Halt F → Type 0
   IsWalkHalted range task lo hi limit OutOfMemory = Unit {0}
-  IsWalkHalted range task lo hi limit (PivotLimit trail) = ReachesWalkLimit value (sample value task.problem) lo hi limit trail
+  IsWalkHalted range task lo hi limit (PivotLimit trail) = ReachesWalkLimit (sample value task.problem) lo hi limit trail
   IsWalkHalted range task lo hi limit (Halted trail r) = IsWalkRefusedAfter range task lo hi limit trail r

@@ -17,8 +17,9 @@ ghost use Rattle.tableau.specs.Bodies.{place_of, IsTaken};
 use basis_inverse::Inverse;
 use frac_core::Exact;
 use fraction_tableau::FractionTableau;
-use loss_model::{Basis, Exchange, Segment};
-use tableau_model::{Failure, Fitted, Step};
+use loss_model::{Basis, Segment};
+use std::alloc::Global;
+use tableau_model::{Failure, Fitted, Step, WalkingStep};
 use whole_tableau::{WholeTableau, failure};
 
 /// A basis of a problem, in fractions or in whole numbers.
@@ -29,6 +30,14 @@ pub enum Tableau<'a, F: Exact> {
 }
 
 impl<'a, F: Exact> Tableau<'a, F> {
+    /// Where its lists are made.
+    pub fn alloc(&self) -> Global {
+        match self {
+            Tableau::Fractions(body) => body.alloc(),
+            Tableau::Wholes(body) => body.alloc(),
+        }
+    }
+
     /// The rows of the basis by position.
     pub fn basis(&self) -> &Basis
         ensures rows { result.now.rows ≡ (place_of F.value self.now).rows }
@@ -53,7 +62,7 @@ impl<'a, F: Exact> Tableau<'a, F> {
     }
 
     /// The vertex of the basis, where no slope is negative, with the dual values of its rows at theta.
-    pub fn vertex(&self, theta: F) -> Result<Fitted<F>, Failure<F>>
+    pub fn vertex(&self, theta: F) -> Result<Fitted, Failure<F>>
         requires costs { HasCosts (sample_of F.value (place_of F.value self.now)) (rational (F.value theta)) }
         requires stop { IsOptimalAt F.value (place_of F.value self.now) (rational (F.value theta)) }
         ensures fitted { IfOk result (IsFitted F.value (place_of F.value self.now) (rational (F.value theta))) }
@@ -98,7 +107,7 @@ impl<'a, F: Exact> Tableau<'a, F> {
     }
 
     /// The walking step from `from` on that is left below hi, or none.
-    pub fn walking_step(&self, from: F, hi: F) -> Result<Option<Exchange<F>>, Failure<F>>
+    pub fn walking_step(&self, from: F, hi: F) -> Result<Option<WalkingStep<F>>, Failure<F>>
         requires costs { HasCosts (sample_of F.value (place_of F.value self.now)) (rational (F.value hi)) }
         requires optimal { IsOptimalFrom F.value (place_of F.value self.now) (rational (F.value from)) }
         ensures step { IfOk result (IsWalkingAnswer F.value (place_of F.value self.now) (rational (F.value from)) (rational (F.value hi))) }
@@ -112,12 +121,7 @@ impl<'a, F: Exact> Tableau<'a, F> {
 
     /// The segment of the basis from one quantile to another, where whole numbers take over what the segment before it
     /// has at its upper end. What is refused is refused to each walk of which this is a segment.
-    pub fn segment(
-        &self,
-        last: Option<&Segment<F>>,
-        from: F,
-        to: F,
-    ) -> Result<Segment<F>, Failure<F>>
+    pub fn segment(&self, last: Option<&Segment>, from: F, to: F) -> Result<Segment, Failure<F>>
         requires carried { IfSome (option_copied last) (IsCarried F.value (place_of F.value self.now) (rational (F.value from))) }
         ensures segment { IfOk result (IsSegmentHere F.value (place_of F.value self.now) (rational (F.value from)) (rational (F.value to))) }
         ensures refused { (hi : ℚ) → IsSegmentTo F.value (place_of F.value self.now) (rational (F.value from)) hi (rational (F.value to)) → IfErr result (IsRefusedOf (IsRefusalAt F.value F.range (place_of F.value self.now) (walking (rational (F.value from)) hi))) }

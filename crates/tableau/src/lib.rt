@@ -7,7 +7,7 @@
 //!
 //! `tau_process` calls it so; no answer means that whole numbers were too wide:
 //! ```text
-//! match Progress::begin_in_wholes(alloc, problem) {
+//! match Progress::begin_in_wholes(alloc, problem, &setting) {
 //!     Ok(begun) => process_from(alloc, begun, lo, hi, limit),
 //!     Err(Obstacle::OutOfMemory) => Some(Err(Stop::OutOfMemory)),
 //!     Err(Obstacle::TooWide) => None,

@@ -1,5 +1,5 @@
 //! The solve at one quantile.
-ghost use Rattle.std.specs.Prelude.{◌≡◌, ℕ, ◌≤◌, length, map, Some, IfOk, IfErr, OnOk};
+ghost use Rattle.std.specs.Prelude.{◌≡◌, ◌++◌, ◌∷◌, [], ℕ, ◌≤◌, length, map, Some, IfOk, IfErr, OnOk};
 ghost use Rattle.rational_laws.specs.Fraction.{rational};
 ghost use Rattle.loss_model.specs.Problem.{IsWellShaped};
 ghost use Rattle.loss_model.specs.Greedy.{IsGreedyBasis};
@@ -12,12 +12,13 @@ ghost use Rattle.tableau_model.specs.Refusals.{IsRefusedOf};
 ghost use Rattle.tableau_model.specs.Answers.{IsOptimalAt};
 ghost use Rattle.whole_tableau.specs.Kept.{IsSetting};
 ghost use Rattle.tableau.specs.Bodies.{place_of};
-ghost use Rattle.tableau.specs.Solving.{IsBegun, IsUnderway, IsAdvance, IsAdvanceOrEnd, IsRefusal, IsSolved, IsSolution, IsHalted, IsHaltOf, stop_of};
+ghost use Rattle.tableau.specs.Solving.{IsBegun, IsUnderway, IsAdvance, IsAdvanceOrEnd, IsRefusal, IsSolved, IsSolution, IsHalted, IsHaltOf, exchange_at, stop_of};
 
 use crate::bodies::Tableau;
 use frac_core::{Exact, List, OutOfMemory};
 use fraction_tableau::FractionTableau;
 use loss_model::{Exchange, Problem, Stop, Trail};
+use ratio::Ratio;
 use std::alloc::Global;
 use tableau_model::{Failure, Fitted, Refusal, Step};
 use whole_inverse::Obstacle;
@@ -27,13 +28,13 @@ use whole_tableau::{Setting, WholeTableau};
 #[derive(Drop)]
 pub struct Progress<'a, F: Exact> {
     pub tableau: Tableau<'a, F>,
-    pub trail: Trail<F>,
+    pub trail: Trail,
 }
 
 /// The vertex of an optimal basis with the dual values of its rows, and how the basis was reached.
 #[derive(Drop)]
 pub struct Solution<'a, F: Exact> {
-    pub fitted: Fitted<F>,
+    pub fitted: Fitted,
     pub reached: Progress<'a, F>,
 }
 
@@ -41,13 +42,8 @@ pub struct Solution<'a, F: Exact> {
 #[derive(Drop)]
 pub enum Halt<F> {
     OutOfMemory,
-    PivotLimit {
-        trail: Trail<F>,
-    },
-    Refused {
-        trail: Trail<F>,
-        refusal: Refusal<F>,
-    },
+    PivotLimit { trail: Trail },
+    Refused { trail: Trail, refusal: Refusal<F> },
 }
 
 /// The rows of a basis as a start in which every position holds one.
@@ -61,8 +57,27 @@ fn full_start(alloc: Global, rows: &[u32]) -> Result<List<Option<u32>>, OutOfMem
     Ok(start)
 }
 
+/// Puts the step at theta to the steps of a trail.
+pub(crate) fn add_step<F: Exact>(
+    alloc: Global,
+    steps: &mut List<Exchange>,
+    theta: F,
+    step: Step,
+) -> Result<(), OutOfMemory>
+    ensures { OnOk result (steps.new ≡ steps.old ++ exchange_at (F.value theta) step ∷ []) }
+{
+    let theta = Ratio::widen(alloc, theta)?;
+    let made = Exchange {
+        theta,
+        position: step.position,
+        row: step.row,
+    };
+    steps.add(made)?;
+    Ok(())
+}
+
 /// The halt of a loop for what refused its next step.
-pub fn halt_of<F: Exact>(refused: Failure<F>, trail: Trail<F>) -> Halt<F>
+pub fn halt_of<F: Exact>(refused: Failure<F>, trail: Trail) -> Halt<F>
     ensures { IsHaltOf refused trail result }
 {
     match refused {
@@ -135,7 +150,7 @@ impl<'a, F: Exact> Progress<'a, F> {
     }
 
     /// Lets the tableau go.
-    pub(crate) fn into_trail(self) -> Trail<F>
+    pub(crate) fn into_trail(self) -> Trail
         ensures { result ≡ self.entry.trail }
     {
         let Progress { tableau, trail } = self;
@@ -170,12 +185,8 @@ impl<'a, F: Exact> Progress<'a, F> {
             Ok(()) => {}
             Err(refused) => return Err(refused),
         }
-        let made = Exchange {
-            theta,
-            position: step.position,
-            row: step.row,
-        };
-        match self.trail.steps.push(made) {
+        let alloc = self.tableau.alloc();
+        match add_step(alloc, &mut self.trail.steps, theta, step) {
             Ok(()) => Ok(()),
             Err(_) => Err(Failure::OutOfMemory),
         }

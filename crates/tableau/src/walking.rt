@@ -15,26 +15,23 @@ ghost use Rattle.tableau.specs.declared.solving.Halt.TheVariants.{PivotLimit};
 ghost use Rattle.tableau.specs.Walking.{IsLastCarried, AreSegmentsAfter, IsWalked, IsWalkedOrStill, IsWalking, IsWalkedOut, IsWalkDone, IsWalkHalted, now_of, here_of};
 
 use crate::bodies::Tableau;
-use crate::solving::{Halt, Progress};
+use crate::solving::{Halt, Progress, add_step};
 use frac_core::{Exact, List};
-use loss_model::{Exchange, Process, Segment};
+use loss_model::{Process, Segment};
 use std::alloc::Global;
-use tableau_model::{Failure, Step};
+use tableau_model::{Failure, Step, WalkingStep};
 
 /// A walk in its midst: the basis and the trail that leads to it, the segments so far, and the quantile at
 /// which it stands.
 #[derive(Drop)]
 pub struct Walk<'a, F: Exact> {
     pub reached: Progress<'a, F>,
-    pub segments: List<Segment<F>>,
+    pub segments: List<Segment>,
     pub now: F,
 }
 
 /// Puts a segment to the others.
-fn push_segment<F: Exact>(
-    segments: &mut List<Segment<F>>,
-    segment: Segment<F>,
-) -> Result<(), Failure<F>>
+fn push_segment<F: Exact>(segments: &mut List<Segment>, segment: Segment) -> Result<(), Failure<F>>
     ensures pushed { OnOk result (segments.new ≡ segments.old ++ segment ∷ []) }
     ensures memory { IfErr result (λ r. r ≡ OutOfMemory) }
 {
@@ -51,7 +48,7 @@ fn push_segment<F: Exact>(
 /// of which this is a stay.
 fn put_segment<'a, F: Exact>(
     tableau: &Tableau<'a, F>,
-    segments: &mut List<Segment<F>>,
+    segments: &mut List<Segment>,
     from: F,
     to: F,
 ) -> Result<(), Failure<F>>
@@ -90,7 +87,7 @@ impl<'a, F: Exact> Walk<'a, F> {
     }
 
     /// Makes a walking step. After a refusal the trail is as before.
-    fn make_step(&mut self, step: Exchange<F>, hi: F) -> Result<(), Failure<F>>
+    fn make_step(&mut self, step: WalkingStep<F>, hi: F) -> Result<(), Failure<F>>
         requires step { IsStepTo F.value (here_of F.value self.old) (now_of F.value self.old) (rational (F.value hi)) step }
         requires carried { IsLastCarried F.value (here_of F.value self.old) (now_of F.value self.old) self.old.segments }
         ensures walked { OnOk result (IsWalked F.value (rational (F.value hi)) self.old self.new) }
@@ -115,7 +112,8 @@ impl<'a, F: Exact> Walk<'a, F> {
             Err(refused) => return Err(refused),
         }
         self.now = step.theta;
-        match self.reached.trail.steps.push(step) {
+        let alloc = self.reached.tableau.alloc();
+        match add_step(alloc, &mut self.reached.trail.steps, step.theta, exchanged) {
             Ok(()) => Ok(()),
             Err(_) => Err(Failure::OutOfMemory),
         }
@@ -173,12 +171,7 @@ fn walk_over<'a, F: Exact>(
 }
 
 /// The process of a walk that is at its end, with the segment up to hi.
-fn end_walk<'a, F: Exact>(
-    walk: Walk<'a, F>,
-    lo: F,
-    hi: F,
-    limit: u32,
-) -> Result<Process<F>, Halt<F>>
+fn end_walk<'a, F: Exact>(walk: Walk<'a, F>, lo: F, hi: F, limit: u32) -> Result<Process, Halt<F>>
     requires costs { HasCosts (sample_of F.value (here_of F.value walk)) (rational (F.value hi)) }
     requires out { IsWalkedOut F.value (here_of F.value walk).task (rational (F.value lo)) (rational (F.value hi)) limit walk }
     ensures done { IfOk result (IsWalkDone F.value (here_of F.value walk.entry).task (rational (F.value lo)) (rational (F.value hi)) limit) }
@@ -219,7 +212,7 @@ pub fn walk_range<'a, F: Exact>(
     lo: F,
     hi: F,
     limit: u32,
-) -> Result<Process<F>, Halt<F>>
+) -> Result<Process, Halt<F>>
     requires ordered { rational (F.value lo) ≤ℚ rational (F.value hi) }
     requires costs_lo { HasCosts (sample_of F.value (place_of F.value from.tableau)) (rational (F.value lo)) }
     requires costs_hi { HasCosts (sample_of F.value (place_of F.value from.tableau)) (rational (F.value hi)) }

@@ -6,3 +6,4 @@ pub mod Soonest
 pub mod SlopeLaws
 pub mod Steps
 pub mod Turns
+pub mod Segments

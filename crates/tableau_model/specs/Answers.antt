@@ -19,6 +19,6 @@ module _ {F : Type 0} (value : F → Fraction) where
   IsSolvingAnswer h theta (Some s) = IsSolvingStep (sample_of value h) (at_of h) h.inverse theta s.position s.row
 
   -- the vertex of the basis, and the dual values of its rows at theta
-  pub record IsFitted (h : Place F) (theta : ℚ) (f : Fitted F) : Type 0 where
+  pub record IsFitted (h : Place F) (theta : ℚ) (f : Fitted) : Type 0 where
     pub vertex : IsVertexAt value h.task.problem h.rows h.inverse f.vertex
     pub basic : AreBasicDuals value h.task.problem theta h.rows h.inverse f.vertex f.basic

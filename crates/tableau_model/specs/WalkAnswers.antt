@@ -2,13 +2,13 @@
 use Rattle.std.specs.Prelude.{ℕ, Option, Some, None}
 use Rattle.rational_laws.specs.Fraction.{Fraction, rational}
 use Rattle.rational_laws.specs.Rational.{ℚ}
-use Rattle.loss_model.specs.declared.process.Exchange.{Exchange}
 use Rattle.loss_model.specs.declared.process.Segment.{Segment}
 use Rattle.walk_model.specs.Families.{over_quantiles, IsOptimalIn}
 use Rattle.walk_model.specs.Walks.{IsWalkingStep}
 use Rattle.walk_model.specs.WalkTrails.{is_below}
 use Rattle.walk_model.specs.WalkSpills.{IsSegmentEnd}
 use Rattle.walk_model.specs.Stays.{IsSegmentOf}
+use Rattle.tableau_model.specs.declared.answer.WalkingStep.{WalkingStep}
 use Rattle.tableau_model.specs.Places.{Place, at_of, sample_of}
 
 module _ {F : Type 0} (value : F → Fraction) where
@@ -17,7 +17,7 @@ module _ {F : Type 0} (value : F → Fraction) where
   IsOptimalFrom h t = IsOptimalIn (over_quantiles (sample_of value h)) (at_of h) h.inverse t
 
   -- the walking step from `from` on and below hi
-  abbrev pub IsStepTo : Place F → ℚ → ℚ → Exchange F → Type 0
+  abbrev pub IsStepTo : Place F → ℚ → ℚ → WalkingStep F → Type 0
   IsStepTo h from hi x =
       IsWalkingStep (over_quantiles (sample_of value h)) (at_of h) h.inverse (is_below hi) from (rational (value x.theta)) x.position x.row
 
@@ -27,7 +27,7 @@ module _ {F : Type 0} (value : F → Fraction) where
       (t : ℚ) (j r : ℕ) → ¬ IsWalkingStep (over_quantiles (sample_of value h)) (at_of h) h.inverse (is_below hi) from t j r
 
   -- none is left, or this one
-  abbrev pub IsWalkingAnswer : Place F → ℚ → ℚ → Option (Exchange F) → Type 0
+  abbrev pub IsWalkingAnswer : Place F → ℚ → ℚ → Option (WalkingStep F) → Type 0
   IsWalkingAnswer h from hi None = IsStill h from hi
   IsWalkingAnswer h from hi (Some x) = IsStepTo h from hi x
 
@@ -36,5 +36,5 @@ module _ {F : Type 0} (value : F → Fraction) where
   IsSegmentTo h from hi to = IsSegmentEnd (sample_of value h) (at_of h) h.inverse from hi to
 
   -- its segment
-  abbrev pub IsSegmentHere : Place F → ℚ → ℚ → Segment F → Type 0
+  abbrev pub IsSegmentHere : Place F → ℚ → ℚ → Segment → Type 0
   IsSegmentHere h from to s = IsSegmentOf value h.task.problem (record { basis = h.rows; lo = from; hi = to }) s

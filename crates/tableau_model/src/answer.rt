@@ -2,6 +2,7 @@
 use frac_core::List;
 use loss_model::{Side, Vertex};
 use pivot_model::Direction;
+use ratio::Ratio;
 
 /// The exchange by which a row takes a position of the basis.
 #[derive(Clone, Copy)]
@@ -12,9 +13,24 @@ pub struct Step {
 
 /// The vertex of a basis, and the dual values of its rows at one quantile, ascending.
 #[derive(Drop)]
-pub struct Fitted<F> {
-    pub vertex: Vertex<F>,
-    pub basic: List<F>,
+pub struct Fitted {
+    pub vertex: Vertex,
+    pub basic: List<Ratio>,
+}
+
+/// A walking step: at the quantile theta a row takes a position of the basis.
+#[derive(Clone, Copy)]
+pub struct WalkingStep<F> {
+    pub theta: F,
+    pub position: u32,
+    pub row: u32,
+}
+
+/// What stands at an end of a segment: the dual values of the basis by ascending row, and the loss.
+#[derive(Drop)]
+pub struct EndValues {
+    pub basic: List<Ratio>,
+    pub loss: Ratio,
 }
 
 /// What a vertex is made of: the coefficients, the sides by row, and the dual values of the basis by

@@ -13,7 +13,7 @@ mod breakpoint;
 mod refusal;
 mod rows;
 
-pub use answer::{Fitted, Leaving, Standing, Step};
+pub use answer::{EndValues, Fitted, Leaving, Standing, Step, WalkingStep};
 pub use breakpoint::{Breakpoint, sooner};
 pub use refusal::{Failure, Refusal};
 pub use rows::{ascending, by_row, position_of};

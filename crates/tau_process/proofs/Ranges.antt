@@ -1,5 +1,5 @@
 -- What is answered to a walk: a process, or the stop of what halts it.
-use Rattle.std.specs.Prelude.{◌≡◌, ◌≤◌, ℕ, length, Some}
+use Rattle.std.specs.Prelude.{◌≡◌, ℕ, length, Some}
 use Rattle.std.proofs.Common.{Ok, Err, refl, sym, subst, inl, inr}
 use Rattle.rational_laws.specs.Fraction.{Fraction}
 use Rattle.rational_laws.specs.Rational.{ℚ, ◌≤ℚ◌}
@@ -9,7 +9,7 @@ use Rattle.loss_model.specs.declared.process.Trail.{Trail}
 use Rattle.loss_model.specs.declared.spill.Spill.{Spill}
 use Rattle.loss_model.specs.declared.stop.Stop.{Stop}
 use Rattle.loss_model.specs.declared.stop.Stop.TheVariants.{OutOfMemory, PivotLimit, Overflow, Dependent}
-use Rattle.loss_model.specs.Problem.{sample, value_at}
+use Rattle.loss_model.specs.Problem.{sample, number_at}
 use Rattle.loss_model.specs.Segment.{Covers, segments_of}
 use Rattle.loss_model.specs.StartStop.{IsStartStop, IsDependent}
 use Rattle.pivot_model.specs.Duals.{HasCosts}
@@ -35,12 +35,12 @@ module _ {F : Type 0} (value : F → Fraction) (task : Task F) (lo hi : ℚ) (li
   abbrev p : Problem F
   p = task.problem
 
-  module _ (costs : HasCosts (sample value p) lo) (costs' : HasCosts (sample value p) hi) (q : Process F) (h : IsWalkDone value task lo hi limit q) where
-    ended : IsWalkEnd (theta_value value) (over_quantiles (sample value p)) (is_below hi)
-        (value_after (theta_value value) (over_quantiles (sample value p)) (is_below hi) lo h.lawful.walking) (basis_after (basis_after h.lawful.first h.lawful.solving) h.lawful.walking)
+  module _ (costs : HasCosts (sample value p) lo) (costs' : HasCosts (sample value p) hi) (q : Process) (h : IsWalkDone value task lo hi limit q) where
+    ended : IsWalkEnd theta_value (over_quantiles (sample value p)) (is_below hi)
+        (value_after theta_value (over_quantiles (sample value p)) (is_below hi) lo h.lawful.walking) (basis_after (basis_after h.lawful.first h.lawful.solving) h.lawful.walking)
     ended =
-        subst (λ now. IsWalkEnd (theta_value value) (over_quantiles (sample value p)) (is_below hi) now (basis_after (basis_after h.lawful.first h.lawful.solving) h.lawful.walking)) (sym h.lawful.reaches)
-        (subst (λ b. IsWalkEnd (theta_value value) (over_quantiles (sample value p)) (is_below hi) h.now b) (sym h.lawful.leads) h.ended)
+        subst (λ now. IsWalkEnd theta_value (over_quantiles (sample value p)) (is_below hi) now (basis_after (basis_after h.lawful.first h.lawful.solving) h.lawful.walking)) (sym h.lawful.reaches)
+        (subst (λ b. IsWalkEnd theta_value (over_quantiles (sample value p)) (is_below hi) h.now b) (sym h.lawful.leads) h.ended)
 
     covered : lo ≤ℚ hi → Covers (length p.rows) lo hi (segments_of value p q.segments) × AreOptimalSegments value p q.segments
     covered range =
@@ -51,19 +51,19 @@ module _ {F : Type 0} (value : F → Fraction) (task : Task F) (lo hi : ℚ) (li
         let both = covered range in
         record { covers = both.0; optimal = both.1; results = record { basis = h.basis; now = h.now; lawful = h.lawful; ended = h.ended; segments = h.segments } }
 
-    done_limited : ¬ IsLimited value (sample value p) lo hi limit
-    done_limited (other, reached) = one_process value (sample value p) lo hi costs costs' h.now q.trail other h.basis limit h.lawful h.ended h.short reached
+    done_limited : ¬ IsLimited (sample value p) lo hi limit
+    done_limited (other, reached) = one_process (sample value p) lo hi costs costs' h.now q.trail other h.basis limit h.lawful h.ended h.short reached
 
     -- a walk that is done answers
     pub done_answers : (range : ℕ) → lo ≤ℚ hi → IsAnswer value range p lo hi limit (Ok q)
     done_answers range ordered = record { process = record { process = process_of ordered; short = h.short }; stopped = tt; limited = done_limited }
 
   -- where a trail reaches the limit the columns are independent
-  not_dependent : (combination : _) → IsDependent value p combination → ¬ IsLimited value (sample value p) lo hi limit
+  not_dependent : (combination : _) → IsDependent value p combination → ¬ IsLimited (sample value p) lo hi limit
   not_dependent combination d (trail, inl r) =
-      d.dependence.some (full_rank (sample value p) _ r.more.a r.more.is_basis (value_at value combination) d.dependence.zero d.dependence.column d.dependence.within)
+      d.dependence.some (full_rank (sample value p) _ r.more.a r.more.is_basis (number_at combination) d.dependence.zero d.dependence.column d.dependence.within)
   not_dependent combination d (trail, inr r) =
-      d.dependence.some (full_rank (sample value p) _ r.more.a r.more.is_basis (value_at value combination) d.dependence.zero d.dependence.column d.dependence.within)
+      d.dependence.some (full_rank (sample value p) _ r.more.a r.more.is_basis (number_at combination) d.dependence.zero d.dependence.column d.dependence.within)
 
   -- the stop of a start is an answer
   pub start_answers : (range : ℕ) (e : Stop F) → IsStartStop value range p e → IsAnswer value range p lo hi limit (Err e)
@@ -72,7 +72,7 @@ module _ {F : Type 0} (value : F → Fraction) (task : Task F) (lo hi : ℚ) (li
   start_answers range (Overflow trail spill) h = record { process = tt; stopped = inl h; limited = λ reached. tt }
   start_answers range (Dependent combination) h = record { process = tt; stopped = h; limited = not_dependent combination h }
 
-  walk_overflow : (range : ℕ) (trail : Trail F) (s : Spill F) → IsWalkRefusedAfter value range task lo hi limit trail (Spilled s) → IsWalkSpill value range p lo hi limit trail s
+  walk_overflow : (range : ℕ) (trail : Trail) (s : Spill F) → IsWalkRefusedAfter value range task lo hi limit trail (Spilled s) → IsWalkSpill value range p lo hi limit trail s
   walk_overflow range trail s h =
       subst (λ (x : Task F). IsWalkSpill value range x.problem lo hi limit trail s) h.same
       (record {

@@ -13,12 +13,12 @@ use Rattle.tau_process.specs.Stops.{IsProcessStop, IsLimited}
 
 module _ {F : Type 0} (value : F → Fraction) (p : Problem F) (lo hi : ℚ) (limit : ℕ) where
   -- a process within the limit
-  pub record IsWithin (q : Process F) : Type 0 where
+  pub record IsWithin (q : Process) : Type 0 where
     pub process : IsProcess value p lo hi q
     pub short : length q.trail.steps ≤ limit
 
 -- such a process, or a stop with its cause; and neither a process nor a dependence where a trail reaches the limit
-pub record IsAnswer {F : Type 0} (value : F → Fraction) (range : ℕ) (p : Problem F) (lo hi : ℚ) (limit : ℕ) (r : Result (Process F) (Stop F)) : Type 0 where
+pub record IsAnswer {F : Type 0} (value : F → Fraction) (range : ℕ) (p : Problem F) (lo hi : ℚ) (limit : ℕ) (r : Result Process (Stop F)) : Type 0 where
   pub process : IfOk r (IsWithin value p lo hi limit)
   pub stopped : IfErr r (IsProcessStop value range p lo hi limit)
-  pub limited : IsLimited value (sample value p) lo hi limit → IsLimitAnswer r
+  pub limited : IsLimited (sample value p) lo hi limit → IsLimitAnswer r

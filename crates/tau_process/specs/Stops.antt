@@ -17,15 +17,15 @@ use Rattle.walk_model.specs.WalkTrails.{IsProcessTrail, ReachesProcessLimit}
 
 module _ {F : Type 0} (value : F → Fraction) (range : ℕ) (p : Problem F) (lo hi : ℚ) (limit : ℕ) where
   -- an operation of the stay at the last basis of the lawful trail overflows
-  pub record IsWalkSpill (trail : Trail F) (spill : Spill F) : Type 0 where
+  pub record IsWalkSpill (trail : Trail) (spill : Spill F) : Type 0 where
     pub basis : List ℕ
     pub now : ℚ
-    pub lawful : IsProcessTrail value (sample value p) lo hi trail basis now
+    pub lawful : IsProcessTrail (sample value p) lo hi trail basis now
     pub short : length trail.steps ≤ limit
     pub here : AtBasis (sample value p) basis (λ a. IsStaySpill value range (sample value p) (slice_index basis) a now hi spill)
 
   -- an operation of the start overflows, of the solve at lo, or of the walk from there
-  abbrev pub IsProcessSpill : Trail F → Spill F → Type 0
+  abbrev pub IsProcessSpill : Trail → Spill F → Type 0
   IsProcessSpill trail spill =
       IsStartSpill value range p trail spill
       ⊎ (IsSolveSpill value range p lo limit trail spill ⊎ IsWalkSpill trail spill)
@@ -33,10 +33,10 @@ module _ {F : Type 0} (value : F → Fraction) (range : ℕ) (p : Problem F) (lo
   -- a limit that is reached, an operation that overflows, or columns that are dependent
   abbrev pub IsProcessStop : Stop F → Type 0
   IsProcessStop OutOfMemory = Unit {0}
-  IsProcessStop (PivotLimit shown trail) = (shown ≡ limit) × ReachesProcessLimit value (sample value p) lo hi limit trail
+  IsProcessStop (PivotLimit shown trail) = (shown ≡ limit) × ReachesProcessLimit (sample value p) lo hi limit trail
   IsProcessStop (Overflow trail spill) = IsProcessSpill trail spill
   IsProcessStop (Dependent combination) = IsDependent value p combination
 
 -- some trail reaches the limit
-abbrev pub IsLimited : {F : Type 0} → (F → Fraction) → Sample → ℚ → ℚ → ℕ → Type 0
-IsLimited {F} value p lo hi limit = (trail : Trail F) × ReachesProcessLimit value p lo hi limit trail
+abbrev pub IsLimited : Sample → ℚ → ℚ → ℕ → Type 0
+IsLimited p lo hi limit = (trail : Trail) × ReachesProcessLimit p lo hi limit trail

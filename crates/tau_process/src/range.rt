@@ -27,7 +27,7 @@ fn process_from<'a, F: Exact>(
     lo: F,
     hi: F,
     limit: u32,
-) -> Option<Result<Process<F>, Stop<F>>>
+) -> Option<Result<Process, Stop<F>>>
     requires ordered { rational (F.value lo) ≤ℚ rational (F.value hi) }
     requires costs_lo { HasCosts (sample_of F.value (place_of F.value begun.tableau)) (rational (F.value lo)) }
     requires costs_hi { HasCosts (sample_of F.value (place_of F.value begun.tableau)) (rational (F.value hi)) }
@@ -58,7 +58,7 @@ fn process_in_wholes<F: Exact>(
     lo: F,
     hi: F,
     limit: u32,
-) -> Option<Result<Process<F>, Stop<F>>>
+) -> Option<Result<Process, Stop<F>>>
     requires shaped { IsWellShaped problem.now }
     requires ordered { rational (F.value lo) ≤ℚ rational (F.value hi) }
     requires costs_lo { HasCosts (sample F.value problem.now) (rational (F.value lo)) }
@@ -84,7 +84,7 @@ fn process_in_fractions<F: Exact>(
     lo: F,
     hi: F,
     limit: u32,
-) -> Result<Process<F>, Stop<F>>
+) -> Result<Process, Stop<F>>
     requires shaped { IsWellShaped problem.now }
     requires ordered { rational (F.value lo) ≤ℚ rational (F.value hi) }
     requires costs_lo { HasCosts (sample F.value problem.now) (rational (F.value lo)) }
@@ -112,7 +112,7 @@ pub fn process<F: Exact>(
     lo: F,
     hi: F,
     limit: u32,
-) -> Result<Process<F>, Stop<F>>
+) -> Result<Process, Stop<F>>
     requires shaped { IsWellShaped problem.now }
     requires ordered { rational (F.value lo) ≤ℚ rational (F.value hi) }
     requires costs_lo { HasCosts (sample F.value problem.now) (rational (F.value lo)) }
@@ -120,7 +120,7 @@ pub fn process<F: Exact>(
     ensures process { IfOk result (IsProcess F.value problem.now (rational (F.value lo)) (rational (F.value hi))) }
     ensures short { IfOk result (λ q. length q.trail.steps ≤ limit) }
     ensures stopped { IfErr result (IsProcessStop F.value F.range problem.now (rational (F.value lo)) (rational (F.value hi)) limit) }
-    ensures limited { IsLimited F.value (sample F.value problem.now) (rational (F.value lo)) (rational (F.value hi)) limit → IsLimitAnswer result }
+    ensures limited { IsLimited (sample F.value problem.now) (rational (F.value lo)) (rational (F.value hi)) limit → IsLimitAnswer result }
 {
     match process_in_wholes(alloc, problem, lo, hi, limit) {
         Some(answer) => answer,

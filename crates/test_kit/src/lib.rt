@@ -7,5 +7,5 @@ mod numbers;
 mod problems;
 
 pub use draws::draw;
-pub use numbers::{is_less, is_ordered, ratio};
+pub use numbers::{is_less, is_ordered, ratio, short_parts};
 pub use problems::{are_data, has_costs, is_shaped};

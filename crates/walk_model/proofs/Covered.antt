@@ -20,7 +20,7 @@ module _ {F : Type 0} (value : F → Fraction) (p : Problem F) where
   rows = length p.rows
 
   -- one segment
-  pub one_covers : (s : Segment F) (lo hi : ℚ) → rational (value s.lo) ≡ lo → rational (value s.hi) ≡ hi → (cmp_ℚ lo hi ≡ Less) ⊎ (lo ≡ hi) → Covers rows lo hi (segments_of value p (s ∷ []))
+  pub one_covers : (s : Segment) (lo hi : ℚ) → rational s.lo ≡ lo → rational s.hi ≡ hi → (cmp_ℚ lo hi ≡ Less) ⊎ (lo ≡ hi) → Covers rows lo hi (segments_of value p (s ∷ []))
   one_covers s lo hi l h proper =
       record {
         some = omega arith;
@@ -37,7 +37,7 @@ module _ {F : Type 0} (value : F → Fraction) (p : Problem F) where
       at (suc j) lj o = absurd (omega (arith, lj))
 
   -- one segment and those that follow
-  pub more_covers : (s : Segment F) (rest : List (Segment F)) (lo mid hi : ℚ) → rational (value s.lo) ≡ lo → rational (value s.hi) ≡ mid → cmp_ℚ lo mid ≡ Less → mid <ℚ hi
+  pub more_covers : (s : Segment) (rest : List Segment) (lo mid hi : ℚ) → rational s.lo ≡ lo → rational s.hi ≡ mid → cmp_ℚ lo mid ≡ Less → mid <ℚ hi
       → Covers rows mid hi (segments_of value p rest)
       → ((i : ℕ) → i < rows → dual_at value p s.vertex s.basic_hi s.hi i ≡ (segments_of value p rest).at_lo 0 i)
       → Covers rows lo hi (segments_of value p (s ∷ rest))

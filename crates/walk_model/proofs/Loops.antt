@@ -30,27 +30,27 @@ use Rattle.walk_model.proofs.Trails.{list_exchanged, below_from}
 use Rattle.walk_model.proofs.Walked.{optimal_from_solved}
 use Rattle.walk_model.proofs.Lines.{le_trans_lt}
 
-module _ {F : Type 0} (when : F → ℚ) (f : Family) (reach : ℚ → Bool) where
-  pub steps_more : (from : ℚ) (basis : List ℕ) (steps : List (Exchange F)) (x : Exchange F) → AreWalkingSteps when f reach from basis steps
+module _ (when : Fraction → ℚ) (f : Family) (reach : ℚ → Bool) where
+  pub steps_more : (from : ℚ) (basis : List ℕ) (steps : List Exchange) (x : Exchange) → AreWalkingSteps when f reach from basis steps
       → AtBasis f.sample (basis_after basis steps) (λ a. IsWalkingStep f (slice_index (basis_after basis steps)) a reach (value_after when f reach from steps) (when x.theta) x.position x.row)
       → AreWalkingSteps when f reach from basis (steps ++ x ∷ [])
   steps_more from basis [] x walk step = (step, tt)
   steps_more from basis (s ∷ steps) x walk step = (walk.0, steps_more (when s.theta) (slice_set basis s.position s.row) steps x walk.1 step)
 
-  pub after_more : (basis : List ℕ) (steps : List (Exchange F)) (x : Exchange F) → basis_after basis (steps ++ x ∷ []) ≡ slice_set (basis_after basis steps) x.position x.row
+  pub after_more : (basis : List ℕ) (steps : List Exchange) (x : Exchange) → basis_after basis (steps ++ x ∷ []) ≡ slice_set (basis_after basis steps) x.position x.row
   after_more basis [] x = refl
   after_more basis (s ∷ steps) x = after_more (slice_set basis s.position s.row) steps x
 
-  pub reached_more : (from : ℚ) (steps : List (Exchange F)) (x : Exchange F) → value_after when f reach from (steps ++ x ∷ []) ≡ when x.theta
+  pub reached_more : (from : ℚ) (steps : List Exchange) (x : Exchange) → value_after when f reach from (steps ++ x ∷ []) ≡ when x.theta
   reached_more from [] x = refl
   reached_more from (s ∷ steps) x = reached_more (when s.theta) steps x
 
-  ended_more : (from : ℚ) (basis : List ℕ) (steps : List (Exchange F)) (x : Exchange F)
+  ended_more : (from : ℚ) (basis : List ℕ) (steps : List Exchange) (x : Exchange)
       → ended_stays when from basis (steps ++ x ∷ []) ≡ ended_stays when from basis steps ++ record { basis = basis_after basis steps; lo = value_after when f reach from steps; hi = when x.theta } ∷ []
   ended_more from basis [] x = refl
   ended_more from basis (s ∷ steps) x = ap (λ xs. record { basis = basis; lo = from; hi = when s.theta } ∷ xs) (ended_more (when s.theta) (slice_set basis s.position s.row) steps x)
 
-  stays_are : (hi from : ℚ) (basis : List ℕ) (steps : List (Exchange F))
+  stays_are : (hi from : ℚ) (basis : List ℕ) (steps : List Exchange)
       → stays when hi from basis steps ≡ ended_stays when from basis steps ++ record { basis = basis_after basis steps; lo = value_after when f reach from steps; hi = hi } ∷ []
   stays_are hi from basis [] = refl
   stays_are hi from basis (s ∷ steps) = ap (λ xs. record { basis = basis; lo = from; hi = when s.theta } ∷ xs) (stays_are hi (when s.theta) (slice_set basis s.position s.row) steps)
@@ -69,7 +69,7 @@ append_none [] = refl
 append_none (x ∷ xs) = ap (λ zs. x ∷ zs) (append_none xs)
 
 module _ {F : Type 0} (value : F → Fraction) (p : Problem F) where
-  segments_more : (stays : List Stay) (segments : List (Segment F)) (x : Stay) (s : Segment F) → AreSegmentsOf value p stays segments → IsSegmentOf value p x s → AreSegmentsOf value p (stays ++ x ∷ []) (segments ++ s ∷ [])
+  segments_more : (stays : List Stay) (segments : List Segment) (x : Stay) (s : Segment) → AreSegmentsOf value p stays segments → IsSegmentOf value p x s → AreSegmentsOf value p (stays ++ x ∷ []) (segments ++ s ∷ [])
   segments_more [] [] x s h k = (k, tt)
   segments_more [] (t ∷ segments) x s h k = absurd h
   segments_more (y ∷ stays) [] x s h k = absurd h
@@ -78,8 +78,8 @@ module _ {F : Type 0} (value : F → Fraction) (p : Problem F) where
   abbrev q : Sample
   q = sample value p
 
-  abbrev when : F → ℚ
-  when x = rational (value x)
+  abbrev when : Fraction → ℚ
+  when x = rational x
 
   pub begins : (lo hi : ℚ) (basis : List ℕ) (a : ℕ → ℕ → ℚ) → lo ≤ℚ hi → length basis ≡ p.columns → IsBasis q (slice_index basis) a → EndsAt p.columns a
       → HasNoNegativeSlope q (slice_index basis) a lo → IsUnderway value p lo hi basis [] [] lo basis a
@@ -99,7 +99,7 @@ module _ {F : Type 0} (value : F → Fraction) (p : Problem F) where
 
   -- ---- a step
 
-  module _ (lo hi : ℚ) (start : List ℕ) (steps : List (Exchange F)) (segments : List (Segment F)) (now : ℚ) (basis : List ℕ) (a b : ℕ → ℕ → ℚ) (x : Exchange F)
+  module _ (lo hi : ℚ) (start : List ℕ) (steps : List Exchange) (segments : List Segment) (now : ℚ) (basis : List ℕ) (a b : ℕ → ℕ → ℚ) (x : Exchange)
       (costs : HasCosts q lo) (costs' : HasCosts q hi) (u : IsUnderway value p lo hi start steps segments now basis a)
       (step : IsWalkingStep (over_quantiles q) (slice_index basis) a (is_below hi) now (when x.theta) x.position x.row)
       (isb : IsBasis q (slice_index (slice_set basis x.position x.row)) b) (ends : EndsAt p.columns b) where
@@ -136,7 +136,7 @@ module _ {F : Type 0} (value : F → Fraction) (p : Problem F) where
     narrow : cmp_ℚ lo hi ≡ Less
     narrow = (cmp_ℚ-Less lo hi).1 (le_trans_lt lo t hi lower before)
 
-    with_segments : (more : List (Segment F)) → AreSegmentsOf value p (filter (is_reported lo hi) (ended_stays when lo start (steps ++ x ∷ []))) more → IsUnderway value p lo hi start (steps ++ x ∷ []) more t next b
+    with_segments : (more : List Segment) → AreSegmentsOf value p (filter (is_reported lo hi) (ended_stays when lo start (steps ++ x ∷ []))) more → IsUnderway value p lo hi start (steps ++ x ∷ []) more t next b
     with_segments more segs =
         record {
           walked = walked;
@@ -161,7 +161,7 @@ module _ {F : Type 0} (value : F → Fraction) (p : Problem F) where
     reported : (o : Ordering) → cmp_ℚ now t ≡ o → is_reported lo hi stay ≡ is_lt o
     reported o e = ap (λ c. if is_lt c then is_lt (cmp_ℚ now t) else true) narrow ∙ ap is_lt e
 
-    pub with_segment : (s : Segment F) → now <ℚ t → IsSegmentOf value p stay s → IsUnderway value p lo hi start (steps ++ x ∷ []) (segments ++ s ∷ []) t next b
+    pub with_segment : (s : Segment) → now <ℚ t → IsSegmentOf value p stay s → IsUnderway value p lo hi start (steps ++ x ∷ []) (segments ++ s ∷ []) t next b
     with_segment s less seg =
         with_segments (segments ++ s ∷ [])
         (subst (λ xs. AreSegmentsOf value p xs (segments ++ s ∷ [])) (sym (tested true (reported Less ((cmp_ℚ-Less now t).1 less))))
@@ -174,11 +174,11 @@ module _ {F : Type 0} (value : F → Fraction) (p : Problem F) where
 
   -- ---- the end
 
-  reached_below : (lo hi : ℚ) (from : ℚ) (basis : List ℕ) (steps : List (Exchange F)) → from <ℚ hi → AreWalkingSteps when (over_quantiles q) (is_below hi) from basis steps → value_after when (over_quantiles q) (is_below hi) from steps <ℚ hi
+  reached_below : (lo hi : ℚ) (from : ℚ) (basis : List ℕ) (steps : List Exchange) → from <ℚ hi → AreWalkingSteps when (over_quantiles q) (is_below hi) from basis steps → value_after when (over_quantiles q) (is_below hi) from steps <ℚ hi
   reached_below lo hi from basis [] h walk = h
   reached_below lo hi from basis (s ∷ steps) h walk = reached_below lo hi (when s.theta) (slice_set basis s.position s.row) steps (below_from (when s.theta) hi walk.0.holds.within) walk.1
 
-  pub done : (lo hi : ℚ) (start : List ℕ) (steps : List (Exchange F)) (segments : List (Segment F)) (now : ℚ) (basis : List ℕ) (a : ℕ → ℕ → ℚ) (s : Segment F)
+  pub done : (lo hi : ℚ) (start : List ℕ) (steps : List Exchange) (segments : List Segment) (now : ℚ) (basis : List ℕ) (a : ℕ → ℕ → ℚ) (s : Segment)
       → IsUnderway value p lo hi start steps segments now basis a → IsSegmentOf value p (record { basis = basis; lo = now; hi = hi }) s
       → AreSegmentsOf value p (filter (is_reported lo hi) (stays when hi lo start steps)) (segments ++ s ∷ [])
   done lo hi start steps segments now basis a s u seg =

@@ -3,6 +3,7 @@ use Rattle.std.specs.Prelude.{◌≡◌, ℕ, suc, ◌<◌, Bool, List, [], ◌�
 use Rattle.std.specs.declared.cmp.Ordering.TheVariants.{Less}
 use Rattle.std.proofs.Common.{refl, sym, ap, subst, ◌∙◌}
 use Rattle.std.proofs.lemmas.List.{length-set}
+use Rattle.rational_laws.specs.Fraction.{Fraction}
 use Rattle.rational_laws.specs.Solver.{negated, ◌⊟◌, v0, v1}
 use Rattle.rational_laws.specs.Rational.{ℚ, neg_ℚ}
 use Rattle.rational_laws.proofs.RationalLaws.{ring_ℚ}
@@ -28,11 +29,11 @@ use Rattle.walk_model.proofs.Trails.{list_exchanged}
 -- ---- walks
 
 -- a list over all rows of a problem, at a basis
-module _ {F : Type 0} (when : F → ℚ) (f : Family) (reach : ℚ → Bool) (measure : (ℕ → ℕ) → (ℕ → ℕ → ℚ) → ℕ → ℚ)
+module _ (when : Fraction → ℚ) (f : Family) (reach : ℚ → Bool) (measure : (ℕ → ℕ) → (ℕ → ℕ → ℚ) → ℕ → ℚ)
     (lowers : (at next : ℕ → ℕ) (a b : ℕ → ℕ → ℚ) (from t : ℚ) (j r : ℕ) → IsBasis f.sample at a → IsBasis f.sample next b → AreExchanged f.sample.columns at next j r
     → IsWalkingStep f at a reach from t j r → lex_cmp (suc f.sample.rows) (measure next b) (measure at a) ≡ Less) where
   -- the measure after a walk with a step is less than before
-  moved_on : (from : ℚ) (basis : List ℕ) (x : Exchange F) (steps : List (Exchange F)) (a b : ℕ → ℕ → ℚ) → length basis ≡ f.sample.columns
+  moved_on : (from : ℚ) (basis : List ℕ) (x : Exchange) (steps : List Exchange) (a b : ℕ → ℕ → ℚ) → length basis ≡ f.sample.columns
       → IsBasis f.sample (slice_index basis) a → EndsAt f.sample.columns a
       → IsBasis f.sample (slice_index (basis_after basis (x ∷ steps))) b → EndsAt f.sample.columns b
       → AreWalkingSteps when f reach from basis (x ∷ steps)
@@ -54,7 +55,7 @@ module _ {F : Type 0} (when : F → ℚ) (f : Family) (reach : ℚ → Bool) (me
       (lowers (slice_index basis) (slice_index next) a made from (when x.theta) x.position x.row u isb ex step)
 
   none_twice : ((at next : ℕ → ℕ) (a b : ℕ → ℕ → ℚ) → IsBasis f.sample at a → IsBasis f.sample next b → ((i : ℕ) → is_among next f.sample.columns i ≡ is_among at f.sample.columns i) → (m : ℕ) → measure next b m ≡ measure at a m)
-      → (from : ℚ) (basis : List ℕ) (x : Exchange F) (steps : List (Exchange F)) (a b : ℕ → ℕ → ℚ) → length basis ≡ f.sample.columns
+      → (from : ℚ) (basis : List ℕ) (x : Exchange) (steps : List Exchange) (a b : ℕ → ℕ → ℚ) → length basis ≡ f.sample.columns
       → IsBasis f.sample (slice_index basis) a → EndsAt f.sample.columns a
       → IsBasis f.sample (slice_index (basis_after basis (x ∷ steps))) b → EndsAt f.sample.columns b
       → AreWalkingSteps when f reach from basis (x ∷ steps)
@@ -64,8 +65,8 @@ module _ {F : Type 0} (when : F → ℚ) (f : Family) (reach : ℚ → Bool) (me
       (λ m lm. alike (slice_index basis) (slice_index (basis_after basis (x ∷ steps))) a b u v same m))
       ∙ moved_on from basis x steps a b size u e v g walk))
 
-module _ {F : Type 0} (when : F → ℚ) (p : Sample) (reach : ℚ → Bool) where
-  pub none_twice_over_quantiles : (from : ℚ) (basis : List ℕ) (x : Exchange F) (steps : List (Exchange F)) (a b : ℕ → ℕ → ℚ) → length basis ≡ p.columns
+module _ (when : Fraction → ℚ) (p : Sample) (reach : ℚ → Bool) where
+  pub none_twice_over_quantiles : (from : ℚ) (basis : List ℕ) (x : Exchange) (steps : List Exchange) (a b : ℕ → ℕ → ℚ) → length basis ≡ p.columns
       → IsBasis p (slice_index basis) a → EndsAt p.columns a → IsBasis p (slice_index (basis_after basis (x ∷ steps))) b → EndsAt p.columns b
       → AreWalkingSteps when (over_quantiles p) reach from basis (x ∷ steps)
       → ¬ ((i : ℕ) → is_among (slice_index (basis_after basis (x ∷ steps))) p.columns i ≡ is_among (slice_index basis) p.columns i)
@@ -75,7 +76,7 @@ module _ {F : Type 0} (when : F → ℚ) (p : Sample) (reach : ℚ → Bool) whe
       (λ at next a b u v same. sum_same p at next a b u v same p.up1 p.down1)
 
   module _ (tau : ℚ) (c : ℕ) (lc : c < p.columns) where
-    pub none_twice_falling : (from : ℚ) (basis : List ℕ) (x : Exchange F) (steps : List (Exchange F)) (a b : ℕ → ℕ → ℚ) → length basis ≡ p.columns
+    pub none_twice_falling : (from : ℚ) (basis : List ℕ) (x : Exchange) (steps : List Exchange) (a b : ℕ → ℕ → ℚ) → length basis ≡ p.columns
         → IsBasis p (slice_index basis) a → EndsAt p.columns a → IsBasis p (slice_index (basis_after basis (x ∷ steps))) b → EndsAt p.columns b
         → AreWalkingSteps when (falling_value p tau c) reach from basis (x ∷ steps)
         → ¬ ((i : ℕ) → is_among (slice_index (basis_after basis (x ∷ steps))) p.columns i ≡ is_among (slice_index basis) p.columns i)
@@ -88,7 +89,7 @@ module _ {F : Type 0} (when : F → ℚ) (p : Sample) (reach : ℚ → Bool) whe
     abbrev negated_coefficient : (ℕ → ℕ) → (ℕ → ℕ → ℚ) → ℕ → ℚ
     negated_coefficient at a m = neg_ℚ (perturbed_coefficient p at a c m)
 
-    pub none_twice_rising : (from : ℚ) (basis : List ℕ) (x : Exchange F) (steps : List (Exchange F)) (a b : ℕ → ℕ → ℚ) → length basis ≡ p.columns
+    pub none_twice_rising : (from : ℚ) (basis : List ℕ) (x : Exchange) (steps : List Exchange) (a b : ℕ → ℕ → ℚ) → length basis ≡ p.columns
         → IsBasis p (slice_index basis) a → EndsAt p.columns a → IsBasis p (slice_index (basis_after basis (x ∷ steps))) b → EndsAt p.columns b
         → AreWalkingSteps when (rising_value p tau c) reach from basis (x ∷ steps)
         → ¬ ((i : ℕ) → is_among (slice_index (basis_after basis (x ∷ steps))) p.columns i ≡ is_among (slice_index basis) p.columns i)

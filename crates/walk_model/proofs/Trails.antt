@@ -43,10 +43,10 @@ list_exchanged basis j r k lk = by (k == j) refl
 
 -- ---- walks
 
-module _ {F : Type 0} (when : F → ℚ) (f : Family) (reach : ℚ → Bool) (start : ℚ)
+module _ (when : Fraction → ℚ) (f : Family) (reach : ℚ → Bool) (start : ℚ)
     (costs : (t : ℚ) → start ≤ℚ t → reach t ≡ true → HasCosts f.sample (theta_of f t)) where
   -- a walk that is at its end is not the first part of a longer one
-  ended : (from : ℚ) (basis : List ℕ) (steps other : List (Exchange F)) → start ≤ℚ from → AreWalkingSteps when f reach from basis steps → AreWalkingSteps when f reach from basis other
+  ended : (from : ℚ) (basis : List ℕ) (steps other : List Exchange) → start ≤ℚ from → AreWalkingSteps when f reach from basis steps → AreWalkingSteps when f reach from basis other
       → length steps ≤ length other → IsWalkEnd when f reach (value_after when f reach from steps) (basis_after basis steps)
       → HasWalkingStep when f reach (value_after when f reach from other) (basis_after basis other) → ⊥
   ended from basis [] [] lf u v l stop more =
@@ -67,7 +67,7 @@ module _ {F : Type 0} (when : F → ℚ) (f : Family) (reach : ℚ → Bool) (st
       (subst (λ z. HasWalkingStep when f reach (value_after when f reach z other) (basis_after (slice_set basis s.position s.row) other)) (sym same.0)
       (subst (λ b. HasWalkingStep when f reach (value_after when f reach (when t.theta) other) (basis_after b other)) (sym next) more))
 
-  pub shorter : (basis : List ℕ) (steps other : List (Exchange F)) → AreWalkingSteps when f reach start basis steps → AreWalkingSteps when f reach start basis other
+  pub shorter : (basis : List ℕ) (steps other : List Exchange) → AreWalkingSteps when f reach start basis steps → AreWalkingSteps when f reach start basis other
       → IsWalkEnd when f reach (value_after when f reach start steps) (basis_after basis steps)
       → HasWalkingStep when f reach (value_after when f reach start other) (basis_after basis other) → length other < length steps
   shorter basis steps other u v stop more = by (cases_lt (length other) (length steps))
@@ -77,7 +77,7 @@ module _ {F : Type 0} (when : F → ℚ) (f : Family) (reach : ℚ → Bool) (st
       by (inr h) = absurd (ended start basis steps other (≤ℚ_refl start) u v h stop more)
 
   -- two walks that are at their ends have as many steps
-  same_length : (from : ℚ) (basis : List ℕ) (steps other : List (Exchange F)) → start ≤ℚ from → AreWalkingSteps when f reach from basis steps → AreWalkingSteps when f reach from basis other
+  same_length : (from : ℚ) (basis : List ℕ) (steps other : List Exchange) → start ≤ℚ from → AreWalkingSteps when f reach from basis steps → AreWalkingSteps when f reach from basis other
       → IsWalkEnd when f reach (value_after when f reach from steps) (basis_after basis steps)
       → IsWalkEnd when f reach (value_after when f reach from other) (basis_after basis other) → length steps ≡ length other
   same_length from basis [] [] lf u v stop stop' = refl
@@ -100,9 +100,9 @@ module _ {F : Type 0} (when : F → ℚ) (f : Family) (reach : ℚ → Bool) (st
 
 -- ---- solving steps
 
-module _ {F : Type 0} (value : F → Fraction) (p : Sample) (theta : ℚ) (costs : HasCosts p theta) where
+module _ (p : Sample) (theta : ℚ) (costs : HasCosts p theta) where
   -- two trails to optimal bases have as many steps, and lead to one basis
-  solved_same : (basis : List ℕ) (steps other : List (Exchange F)) → AreSolvingSteps value p theta basis steps → AreSolvingSteps value p theta basis other
+  solved_same : (basis : List ℕ) (steps other : List Exchange) → AreSolvingSteps p theta basis steps → AreSolvingSteps p theta basis other
       → IsOptimalBasis p theta (basis_after basis steps) → IsOptimalBasis p theta (basis_after basis other)
       → (length steps ≡ length other) × (basis_after basis steps ≡ basis_after basis other)
   solved_same basis [] [] u v stop stop' = (refl, refl)
@@ -114,7 +114,7 @@ module _ {F : Type 0} (value : F → Fraction) (p : Sample) (theta : ℚ) (costs
       let same : (s.position ≡ t.position) × (s.row ≡ t.row) = one_step p (slice_index basis) u.1.a v.1.a theta s.position s.row t.position t.row u.1.is_basis v.1.is_basis u.1.ends v.1.ends costs u.1.holds v.1.holds in
       let next : slice_set basis s.position s.row ≡ slice_set basis t.position t.row = ap₂ (λ j r. slice_set basis j r) same.0 same.1 in
       let rest : (length steps ≡ length other) × (basis_after (slice_set basis s.position s.row) steps ≡ basis_after (slice_set basis s.position s.row) other) =
-      solved_same (slice_set basis s.position s.row) steps other u.2 (subst (λ b. AreSolvingSteps value p theta b other) (sym next) v.2) stop
+      solved_same (slice_set basis s.position s.row) steps other u.2 (subst (λ b. AreSolvingSteps p theta b other) (sym next) v.2) stop
       (subst (λ b. IsOptimalBasis p theta (basis_after b other)) (sym next) stop') in
       (omega (arith, rest.0), rest.1 ∙ ap (λ b. basis_after b other) next)
 
@@ -123,25 +123,25 @@ module _ {F : Type 0} (value : F → Fraction) (p : Sample) (theta : ℚ) (costs
 pub below_from : (x y : ℚ) → is_lt (cmp_ℚ x y) ≡ true → x <ℚ y
 below_from x y h = (cmp_ℚ-Less x y).0 (is_less (cmp_ℚ x y) h)
 
-module _ {F : Type 0} (value : F → Fraction) (p : Sample) (lo hi : ℚ) (costs : HasCosts p lo) (costs' : HasCosts p hi) where
-  abbrev when : F → ℚ
-  when x = rational (value x)
+module _ (p : Sample) (lo hi : ℚ) (costs : HasCosts p lo) (costs' : HasCosts p hi) where
+  abbrev when : Fraction → ℚ
+  when x = rational x
 
   walk_costs : (t : ℚ) → lo ≤ℚ t → is_below hi t ≡ true → HasCosts p t
   walk_costs t lower h = costs_between p lo hi t costs costs' lower (le_from_not t hi (below_from t hi h))
 
-  pub one_process : (now : ℚ) (trail other : Trail F) (basis : List ℕ) (limit : ℕ) → IsProcessTrail value p lo hi trail basis now
-      → IsWalkEnd when (over_quantiles p) (is_below hi) now basis → length trail.steps ≤ limit → ¬ ReachesProcessLimit value p lo hi limit other
+  pub one_process : (now : ℚ) (trail other : Trail) (basis : List ℕ) (limit : ℕ) → IsProcessTrail p lo hi trail basis now
+      → IsWalkEnd when (over_quantiles p) (is_below hi) now basis → length trail.steps ≤ limit → ¬ ReachesProcessLimit p lo hi limit other
   one_process now trail other basis limit u stop short (inl solving) =
-      one_trail value p lo costs (record { start = trail.start; steps = u.solving; rise = []; fall = [] }) other (basis_after u.first u.solving) limit
+      one_trail p lo costs (record { start = trail.start; steps = u.solving; rise = []; fall = [] }) other (basis_after u.first u.solving) limit
       (record { first = u.first; begins = u.begins; greedy = u.greedy; lawful = u.solved; leads = refl; rise = refl; fall = refl }) u.optimal
       (let e : length trail.steps ≡ length u.solving + length u.walking = ap length u.all ∙ length-append u.solving u.walking in omega (arith, e, short)) solving
   one_process now trail other basis limit u stop short (inr r) =
-      let v : IsProcessTrail value p lo hi other r.basis r.now = r.lawful in
+      let v : IsProcessTrail p lo hi other r.basis r.now = r.lawful in
       let first : u.first ≡ v.first = same_items u.first v.first (one_start p p.rows (map Some u.first) (map Some v.first) u.greedy v.greedy) in
-      let solved : AreSolvingSteps value p lo u.first v.solving = subst (λ b. AreSolvingSteps value p lo b v.solving) (sym first) v.solved in
+      let solved : AreSolvingSteps p lo u.first v.solving = subst (λ b. AreSolvingSteps p lo b v.solving) (sym first) v.solved in
       let optimal : IsOptimalBasis p lo (basis_after u.first v.solving) = subst (λ b. IsOptimalBasis p lo (basis_after b v.solving)) (sym first) v.optimal in
-      let same : (length u.solving ≡ length v.solving) × (basis_after u.first u.solving ≡ basis_after u.first v.solving) = solved_same value p lo costs u.first u.solving v.solving u.solved solved u.optimal optimal in
+      let same : (length u.solving ≡ length v.solving) × (basis_after u.first u.solving ≡ basis_after u.first v.solving) = solved_same p lo costs u.first u.solving v.solving u.solved solved u.optimal optimal in
       let base : basis_after u.first u.solving ≡ basis_after v.first v.solving = same.1 ∙ ap (λ b. basis_after b v.solving) first in
       let walked : AreWalkingSteps when (over_quantiles p) (is_below hi) lo (basis_after u.first u.solving) v.walking = subst (λ b. AreWalkingSteps when (over_quantiles p) (is_below hi) lo b v.walking) (sym base) v.walked in
       let ends : IsWalkEnd when (over_quantiles p) (is_below hi) (value_after when (over_quantiles p) (is_below hi) lo u.walking) (basis_after (basis_after u.first u.solving) u.walking) =
@@ -160,17 +160,17 @@ module _ {F : Type 0} (value : F → Fraction) (p : Sample) (lo hi : ℚ) (costs
 
 -- ---- intervals
 
-module _ {F : Type 0} (value : F → Fraction) (p : Sample) (tau : ℚ) (c : ℕ) (bound : ℚ) (costs : HasCosts p tau) where
-  pub one_interval : (trail other : Trail F) (basis : List ℕ) (limit : ℕ) → IsIntervalTrail value p tau c bound trail basis
-      → HasRisen value p tau c bound trail basis → HasFallen value p tau c bound trail basis
-      → length trail.steps + length trail.rise + length trail.fall ≤ limit → ¬ ReachesIntervalLimit value p tau c bound limit other
+module _ (p : Sample) (tau : ℚ) (c : ℕ) (bound : ℚ) (costs : HasCosts p tau) where
+  pub one_interval : (trail other : Trail) (basis : List ℕ) (limit : ℕ) → IsIntervalTrail p tau c bound trail basis
+      → HasRisen p tau c bound trail basis → HasFallen p tau c bound trail basis
+      → length trail.steps + length trail.rise + length trail.fall ≤ limit → ¬ ReachesIntervalLimit p tau c bound limit other
   one_interval trail other basis limit u risen fallen short (inl solving) =
-      one_trail value p tau costs (record { start = trail.start; steps = trail.steps; rise = []; fall = [] }) other basis limit
+      one_trail p tau costs (record { start = trail.start; steps = trail.steps; rise = []; fall = [] }) other basis limit
       (record { first = u.first; begins = u.begins; greedy = u.greedy; lawful = u.solved; leads = u.leads; rise = refl; fall = refl }) u.optimal
       (omega (arith, short)) solving
   one_interval trail other basis limit u risen fallen short (inr r) = by r.more
     where
-      v : IsIntervalTrail value p tau c bound other r.basis
+      v : IsIntervalTrail p tau c bound other r.basis
       v = r.lawful
 
       first : u.first ≡ v.first
@@ -178,19 +178,19 @@ module _ {F : Type 0} (value : F → Fraction) (p : Sample) (tau : ℚ) (c : ℕ
 
       solved : (length trail.steps ≡ length other.steps) × (basis_after u.first trail.steps ≡ basis_after u.first other.steps)
       solved =
-          solved_same value p tau costs u.first trail.steps other.steps u.solved
-          (subst (λ b. AreSolvingSteps value p tau b other.steps) (sym first) v.solved)
+          solved_same p tau costs u.first trail.steps other.steps u.solved
+          (subst (λ b. AreSolvingSteps p tau b other.steps) (sym first) v.solved)
           (subst (IsOptimalBasis p tau) (sym u.leads) u.optimal)
           (subst (λ b. IsOptimalBasis p tau (basis_after b other.steps)) (sym first) (subst (IsOptimalBasis p tau) (sym v.leads) v.optimal))
 
       base : r.basis ≡ basis
       base = sym v.leads ∙ ap (λ b. basis_after b other.steps) (sym first) ∙ sym solved.1 ∙ u.leads
 
-      rose : AreWalkingSteps (negated_theta value) (rising_value p tau c) (is_within bound) (whole (pos 0)) basis other.rise
-      rose = subst (λ b. AreWalkingSteps (negated_theta value) (rising_value p tau c) (is_within bound) (whole (pos 0)) b other.rise) base v.rose
+      rose : AreWalkingSteps (negated_theta) (rising_value p tau c) (is_within bound) (whole (pos 0)) basis other.rise
+      rose = subst (λ b. AreWalkingSteps (negated_theta) (rising_value p tau c) (is_within bound) (whole (pos 0)) b other.rise) base v.rose
 
-      fell : AreWalkingSteps (theta_value value) (falling_value p tau c) (is_within bound) (whole (pos 0)) basis other.fall
-      fell = subst (λ b. AreWalkingSteps (theta_value value) (falling_value p tau c) (is_within bound) (whole (pos 0)) b other.fall) base v.fell
+      fell : AreWalkingSteps (theta_value) (falling_value p tau c) (is_within bound) (whole (pos 0)) basis other.fall
+      fell = subst (λ b. AreWalkingSteps (theta_value) (falling_value p tau c) (is_within bound) (whole (pos 0)) b other.fall) base v.fell
 
       count : length other.steps + length other.rise + length other.fall ≡ limit
       count = r.count
@@ -198,18 +198,18 @@ module _ {F : Type 0} (value : F → Fraction) (p : Sample) (tau : ℚ) (c : ℕ
       steps : length trail.steps ≡ length other.steps
       steps = solved.0
 
-      by : HasTestedStep value p tau c bound other r.basis → ⊥
+      by : HasTestedStep p tau c bound other r.basis → ⊥
       by (inl (none, more)) =
-          let less : length other.rise < length trail.rise = shorter (negated_theta value) (rising_value p tau c) (is_within bound) (whole (pos 0)) (λ t lower h. costs) basis trail.rise other.rise u.rose rose risen
-          (subst (λ b. HasWalkingStep (negated_theta value) (rising_value p tau c) (is_within bound) (value_after (negated_theta value) (rising_value p tau c) (is_within bound) (whole (pos 0)) other.rise) (basis_after b other.rise)) base
+          let less : length other.rise < length trail.rise = shorter (negated_theta) (rising_value p tau c) (is_within bound) (whole (pos 0)) (λ t lower h. costs) basis trail.rise other.rise u.rose rose risen
+          (subst (λ b. HasWalkingStep (negated_theta) (rising_value p tau c) (is_within bound) (value_after (negated_theta) (rising_value p tau c) (is_within bound) (whole (pos 0)) other.rise) (basis_after b other.rise)) base
           more) in
           let empty : length other.fall ≡ 0 = ap length none in
           omega (arith, less, empty, short, count, steps)
       by (inr (risen', more)) =
-          let rises : length trail.rise ≡ length other.rise = same_length (negated_theta value) (rising_value p tau c) (is_within bound) (whole (pos 0)) (λ t lower h. costs) (whole (pos 0)) basis trail.rise other.rise
+          let rises : length trail.rise ≡ length other.rise = same_length (negated_theta) (rising_value p tau c) (is_within bound) (whole (pos 0)) (λ t lower h. costs) (whole (pos 0)) basis trail.rise other.rise
           (≤ℚ_refl (whole (pos 0))) u.rose rose risen
-          (subst (λ b. HasRisen value p tau c bound other b) base risen') in
-          let less : length other.fall < length trail.fall = shorter (theta_value value) (falling_value p tau c) (is_within bound) (whole (pos 0)) (λ t lower h. costs) basis trail.fall other.fall u.fell fell fallen
-          (subst (λ b. HasWalkingStep (theta_value value) (falling_value p tau c) (is_within bound) (value_after (theta_value value) (falling_value p tau c) (is_within bound) (whole (pos 0)) other.fall) (basis_after b other.fall)) base
+          (subst (λ b. HasRisen p tau c bound other b) base risen') in
+          let less : length other.fall < length trail.fall = shorter (theta_value) (falling_value p tau c) (is_within bound) (whole (pos 0)) (λ t lower h. costs) basis trail.fall other.fall u.fell fell fallen
+          (subst (λ b. HasWalkingStep (theta_value) (falling_value p tau c) (is_within bound) (value_after (theta_value) (falling_value p tau c) (is_within bound) (whole (pos 0)) other.fall) (basis_after b other.fall)) base
           more) in
           omega (arith, less, rises, short, count, steps)

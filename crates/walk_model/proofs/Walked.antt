@@ -16,7 +16,7 @@ use Rattle.loss_model.specs.declared.process.Exchange.{Exchange}
 use Rattle.loss_model.specs.declared.process.Segment.{Segment}
 use Rattle.loss_model.specs.Sample.{Sample}
 use Rattle.loss_model.specs.Dual.{IsDual}
-use Rattle.loss_model.specs.Problem.{value_at, sample}
+use Rattle.loss_model.specs.Problem.{number_at, sample}
 use Rattle.loss_model.specs.Segment.{Covers, dual_at, segments_of}
 use Rattle.loss_model.specs.Vertex.{dual_value}
 use Rattle.pivot_model.specs.declared.direction.Direction.{Direction}
@@ -59,8 +59,8 @@ module _ {F : Type 0} (value : F → Fraction) (p : Problem F) where
   abbrev f : Family
   f = over_quantiles q
 
-  abbrev when : F → ℚ
-  when x = rational (value x)
+  abbrev when : Fraction → ℚ
+  when x = rational x
 
   abbrev rows : ℕ
   rows = length p.rows
@@ -73,7 +73,7 @@ module _ {F : Type 0} (value : F → Fraction) (p : Problem F) where
 
   -- ---- a segment
 
-  module _ (basis : List ℕ) (a : ℕ → ℕ → ℚ) (size : length basis ≡ p.columns) (isb : IsBasis q (slice_index basis) a) (ends : EndsAt q.columns a) (from to : ℚ) (s : Segment F)
+  module _ (basis : List ℕ) (a : ℕ → ℕ → ℚ) (size : length basis ≡ p.columns) (isb : IsBasis q (slice_index basis) a) (ends : EndsAt q.columns a) (from to : ℚ) (s : Segment)
       (seg : IsSegmentOf value p (record { basis = basis; lo = from; hi = to }) s) where
     there : IsVertexAt value p basis a s.vertex × AreBasicDuals value p from basis a s.vertex s.basic_lo × AreBasicDuals value p to basis a s.vertex s.basic_hi
     there =
@@ -95,9 +95,9 @@ module _ {F : Type 0} (value : F → Fraction) (p : Problem F) where
     pub both_optimal : HasCosts q from → HasCosts q to → IsOptimalIn f (slice_index basis) a from → IsOptimalIn f (slice_index basis) a to → IsOptimalSegment value p s
     both_optimal costs costs' stop stop' =
         record {
-          at_lo = subst (λ z. IsDual q z (value_at value s.vertex.coef) (dual_value value p s.vertex s.basic_lo z)) (sym seg.lo)
+          at_lo = subst (λ z. IsDual q z (number_at s.vertex.coef) (dual_value value p s.vertex s.basic_lo z)) (sym seg.lo)
               (vertex_is_optimal value p from basis a s.vertex s.basic_lo size isb there.0 there.1 costs (solved_from (slice_index basis) a from stop));
-          at_hi = subst (λ z. IsDual q z (value_at value s.vertex.coef) (dual_value value p s.vertex s.basic_hi z)) (sym seg.hi)
+          at_hi = subst (λ z. IsDual q z (number_at s.vertex.coef) (dual_value value p s.vertex s.basic_hi z)) (sym seg.hi)
               (vertex_is_optimal value p to basis a s.vertex s.basic_hi size isb there.0 there.2 costs' (solved_from (slice_index basis) a to stop'));
         }
 
@@ -112,14 +112,14 @@ module _ {F : Type 0} (value : F → Fraction) (p : Problem F) where
     costs_at t lower upper = costs_between q lo hi t costs costs' lower upper
 
     -- what the segments from a basis on are
-    record Follows (from : ℚ) (basis : List ℕ) (a : ℕ → ℕ → ℚ) (segments : List (Segment F)) : Type 0 where
+    record Follows (from : ℚ) (basis : List ℕ) (a : ℕ → ℕ → ℚ) (segments : List Segment) : Type 0 where
       pub covers : Covers rows from hi (segments_of value p segments)
       pub begins : (i : ℕ) → i < rows → (segments_of value p segments).at_lo 0 i ≡ dual_in f (slice_index basis) a from i
       pub optimal : AreOptimalSegments value p segments
 
     last_one : (from : ℚ) (basis : List ℕ) (a : ℕ → ℕ → ℚ) (size : length basis ≡ p.columns) (isb : IsBasis q (slice_index basis) a) (ends : EndsAt q.columns a) → lo ≤ℚ from → (cmp_ℚ from hi ≡ Less) ⊎ (from ≡ hi)
         → IsOptimalIn f (slice_index basis) a from
-        → IsWalkEnd when f (is_below hi) from basis → (segments : List (Segment F)) → AreSegmentsOf value p (record { basis = basis; lo = from; hi = hi } ∷ []) segments → Follows from basis a segments
+        → IsWalkEnd when f (is_below hi) from basis → (segments : List Segment) → AreSegmentsOf value p (record { basis = basis; lo = from; hi = hi } ∷ []) segments → Follows from basis a segments
     last_one from basis a size isb ends lower within stop end [] segs = absurd segs
     last_one from basis a size isb ends lower within stop end (s ∷ t ∷ rest) segs = absurd segs.1
     last_one from basis a size isb ends lower within stop end (s ∷ []) segs =
@@ -137,13 +137,13 @@ module _ {F : Type 0} (value : F → Fraction) (p : Problem F) where
         at (inr e) = subst (λ z. from ≤ℚ z) e (≤ℚ_refl from)
 
     -- that the segments of the stays from a basis on are so
-    abbrev AllFollow : ℚ → List ℕ → List (Exchange F) → Type 0
+    abbrev AllFollow : ℚ → List ℕ → List Exchange → Type 0
     AllFollow from basis steps =
         (a : ℕ → ℕ → ℚ) (size : length basis ≡ p.columns) (isb : IsBasis q (slice_index basis) a) (ends : EndsAt q.columns a) → lo ≤ℚ from → from <ℚ hi → IsOptimalIn f (slice_index basis) a from
         → AreWalkingSteps when f (is_below hi) from basis steps → IsWalkEnd when f (is_below hi) (value_after when f (is_below hi) from steps) (basis_after basis steps)
-        → (segments : List (Segment F)) → AreSegmentsOf value p (filter proper (stays when hi from basis steps)) segments → Follows from basis a segments
+        → (segments : List Segment) → AreSegmentsOf value p (filter proper (stays when hi from basis steps)) segments → Follows from basis a segments
 
-    one_more : (from : ℚ) (basis : List ℕ) (x : Exchange F) (steps : List (Exchange F)) → AllFollow (when x.theta) (slice_set basis x.position x.row) steps → AllFollow from basis (x ∷ steps)
+    one_more : (from : ℚ) (basis : List ℕ) (x : Exchange) (steps : List Exchange) → AllFollow (when x.theta) (slice_set basis x.position x.row) steps → AllFollow from basis (x ∷ steps)
     one_more from basis x steps later a size isb ends lower within stop walk end segments segs = by (cmp_ℚ from t) refl
       where
         t : ℚ
@@ -194,13 +194,13 @@ module _ {F : Type 0} (value : F → Fraction) (p : Problem F) where
         same : (i : ℕ) → i < rows → dual_in f (slice_index next) b t i ≡ dual_in f at a t i
         same = duals_stay f at (slice_index next) a b t x.position x.row step.direction isb isb' ex step.break.position step.entering step.break.crosses.meets
 
-        rest : (segments : List (Segment F)) → AreSegmentsOf value p (filter proper (stays when hi t next steps)) segments → Follows t next b segments
+        rest : (segments : List Segment) → AreSegmentsOf value p (filter proper (stays when hi t next steps)) segments → Follows t next b segments
         rest = later b size' isb' ends' lower_t before stop' walk.1 end
 
         stay : Stay
         stay = record { basis = basis; lo = from; hi = t }
 
-        longer : (segments : List (Segment F)) → cmp_ℚ from t ≡ Less → AreSegmentsOf value p (stay ∷ filter proper (stays when hi t next steps)) segments → Follows from basis a segments
+        longer : (segments : List Segment) → cmp_ℚ from t ≡ Less → AreSegmentsOf value p (stay ∷ filter proper (stays when hi t next steps)) segments → Follows from basis a segments
         longer [] less segs = absurd segs
         longer (s ∷ segments) less segs =
             let tail : Follows t next b segments = rest segments segs.1 in
@@ -223,7 +223,7 @@ module _ {F : Type 0} (value : F → Fraction) (p : Problem F) where
               optimal = tail.optimal;
             }
 
-    follows : (from : ℚ) (basis : List ℕ) (steps : List (Exchange F)) → AllFollow from basis steps
+    follows : (from : ℚ) (basis : List ℕ) (steps : List Exchange) → AllFollow from basis steps
     follows from basis [] a size isb ends lower within stop walk end segments segs =
         let less : cmp_ℚ from hi ≡ Less = (cmp_ℚ-Less from hi).1 within in
         last_one from basis a size isb ends lower (inl less) stop end segments
@@ -233,7 +233,7 @@ module _ {F : Type 0} (value : F → Fraction) (p : Problem F) where
 
     -- ---- the range
 
-    pub walk_covers : (basis : List ℕ) (steps : List (Exchange F)) (segments : List (Segment F)) → lo ≤ℚ hi → IsOptimalBasis q lo basis
+    pub walk_covers : (basis : List ℕ) (steps : List Exchange) (segments : List Segment) → lo ≤ℚ hi → IsOptimalBasis q lo basis
         → AreWalkingSteps when f (is_below hi) lo basis steps → IsWalkEnd when f (is_below hi) (value_after when f (is_below hi) lo steps) (basis_after basis steps)
         → AreSegmentsOf value p (filter (is_reported lo hi) (stays when hi lo basis steps)) segments
         → Covers rows lo hi (segments_of value p segments) × AreOptimalSegments value p segments
@@ -242,7 +242,7 @@ module _ {F : Type 0} (value : F → Fraction) (p : Problem F) where
         stop : IsOptimalIn f (slice_index basis) o.a lo
         stop = optimal_from_solved (slice_index basis) o.a lo o.holds
 
-        by : (c : Ordering) → cmp_ℚ lo hi ≡ c → (steps : List (Exchange F)) → AreWalkingSteps when f (is_below hi) lo basis steps → IsWalkEnd when f (is_below hi) (value_after when f (is_below hi) lo steps) (basis_after basis steps)
+        by : (c : Ordering) → cmp_ℚ lo hi ≡ c → (steps : List Exchange) → AreWalkingSteps when f (is_below hi) lo basis steps → IsWalkEnd when f (is_below hi) (value_after when f (is_below hi) lo steps) (basis_after basis steps)
             → AreSegmentsOf value p (filter (is_reported lo hi) (stays when hi lo basis steps)) segments → Covers rows lo hi (segments_of value p segments) × AreOptimalSegments value p segments
         by Greater e steps walk end segs = absurd ((cmp_ℚ-Greater lo hi).0 e range)
         by Less e steps walk end segs =

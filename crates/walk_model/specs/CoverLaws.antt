@@ -21,12 +21,12 @@ use Rattle.walk_model.specs.Underway.{IsUnderway}
 -- where two meet, and both ends of each are optimal
 abbrev pub WalkCovers : {F : Type 0} → (F → Fraction) → Problem F → Type 0
 WalkCovers {F} value p =
-    (lo hi : ℚ) (basis : List ℕ) (steps : List (Exchange F)) (segments : List (Segment F))
+    (lo hi : ℚ) (basis : List ℕ) (steps : List Exchange) (segments : List Segment)
     → HasCosts (sample value p) lo → HasCosts (sample value p) hi → lo ≤ℚ hi
     → IsOptimalBasis (sample value p) lo basis
-    → AreWalkingSteps (theta_value value) (over_quantiles (sample value p)) (is_below hi) lo basis steps
-    → IsEndAfter (theta_value value) (over_quantiles (sample value p)) (is_below hi) lo basis steps
-    → AreSegmentsOf value p (filter (is_reported lo hi) (stays (theta_value value) hi lo basis steps)) segments
+    → AreWalkingSteps (theta_value) (over_quantiles (sample value p)) (is_below hi) lo basis steps
+    → IsEndAfter (theta_value) (over_quantiles (sample value p)) (is_below hi) lo basis steps
+    → AreSegmentsOf value p (filter (is_reported lo hi) (stays (theta_value) hi lo basis steps)) segments
     → Covers (length p.rows) lo hi (segments_of value p segments) × AreOptimalSegments value p segments
 
 -- a walk begins at an optimal basis
@@ -41,19 +41,19 @@ WalkBegins {F} value p =
 -- the one before
 abbrev pub WalkGoesOn : {F : Type 0} → (F → Fraction) → Problem F → Type 0
 WalkGoesOn {F} value p =
-    (lo hi : ℚ) (start : List ℕ) (steps : List (Exchange F)) (segments : List (Segment F)) (now : ℚ) (basis : List ℕ) (a b : ℕ → ℕ → ℚ) (x : Exchange F)
-    → let t = rational (value x.theta) in let next = slice_set basis x.position x.row in
+    (lo hi : ℚ) (start : List ℕ) (steps : List Exchange) (segments : List Segment) (now : ℚ) (basis : List ℕ) (a b : ℕ → ℕ → ℚ) (x : Exchange)
+    → let t = rational x.theta in let next = slice_set basis x.position x.row in
     HasCosts (sample value p) lo → HasCosts (sample value p) hi → IsUnderway value p lo hi start steps segments now basis a
     → IsWalkingStep (over_quantiles (sample value p)) (slice_index basis) a (is_below hi) now t x.position x.row
     → IsBasis (sample value p) (slice_index next) b → EndsAt p.columns b
-    → ((s : Segment F) → now <ℚ t → IsSegmentOf value p (record { basis = basis; lo = now; hi = t }) s
+    → ((s : Segment) → now <ℚ t → IsSegmentOf value p (record { basis = basis; lo = now; hi = t }) s
     → IsUnderway value p lo hi start (steps ++ x ∷ []) (segments ++ s ∷ []) t next b)
     × (now ≡ t → IsUnderway value p lo hi start (steps ++ x ∷ []) segments t next b)
 
 -- where no step is left, the segment up to hi is the last one
 abbrev pub WalkIsDone : {F : Type 0} → (F → Fraction) → Problem F → Type 0
 WalkIsDone {F} value p =
-    (lo hi : ℚ) (start : List ℕ) (steps : List (Exchange F)) (segments : List (Segment F)) (now : ℚ) (basis : List ℕ) (a : ℕ → ℕ → ℚ) (s : Segment F)
+    (lo hi : ℚ) (start : List ℕ) (steps : List Exchange) (segments : List Segment) (now : ℚ) (basis : List ℕ) (a : ℕ → ℕ → ℚ) (s : Segment)
     → IsUnderway value p lo hi start steps segments now basis a
     → IsSegmentOf value p (record { basis = basis; lo = now; hi = hi }) s
-    → AreSegmentsOf value p (filter (is_reported lo hi) (stays (theta_value value) hi lo start steps)) (segments ++ s ∷ [])
+    → AreSegmentsOf value p (filter (is_reported lo hi) (stays (theta_value) hi lo start steps)) (segments ++ s ∷ [])

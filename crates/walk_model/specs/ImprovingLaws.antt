@@ -40,16 +40,16 @@ HaveOtherRows p basis other =
     ¬ ((i : ℕ) → is_among (slice_index other) p.columns i ≡ is_among (slice_index basis) p.columns i)
 
 -- a walk of at least one step leads to a basis of other rows
-abbrev pub LeavesItsRows : {F : Type 0} → (F → ℚ) → Family → Type 0
-LeavesItsRows {F} when f =
-    (reach : ℚ → Bool) (from : ℚ) (basis : List ℕ) (x : Exchange F) (steps : List (Exchange F)) (a b : ℕ → ℕ → ℚ)
+abbrev pub LeavesItsRows : (Fraction → ℚ) → Family → Type 0
+LeavesItsRows when f =
+    (reach : ℚ → Bool) (from : ℚ) (basis : List ℕ) (x : Exchange) (steps : List Exchange) (a b : ℕ → ℕ → ℚ)
     → length basis ≡ f.sample.columns → IsBasis f.sample (slice_index basis) a → EndsAt f.sample.columns a
     → IsBasis f.sample (slice_index (basis_after basis (x ∷ steps))) b → EndsAt f.sample.columns b
     → AreWalkingSteps when f reach from basis (x ∷ steps) → HaveOtherRows f.sample basis (basis_after basis (x ∷ steps))
 
 -- so no rows make a basis twice over quantiles, nor while a tested value rises or falls
-abbrev pub NoBasisTwice : {F : Type 0} → (F → Fraction) → Type 0
-NoBasisTwice value =
-    (p : Sample) → LeavesItsRows (theta_value value) (over_quantiles p)
-    × ((tau : ℚ) (c : ℕ) → c < p.columns → LeavesItsRows (negated_theta value) (rising_value p tau c))
-    × ((tau : ℚ) (c : ℕ) → c < p.columns → LeavesItsRows (theta_value value) (falling_value p tau c))
+abbrev pub NoBasisTwice : Type 0
+NoBasisTwice =
+    (p : Sample) → LeavesItsRows (theta_value) (over_quantiles p)
+    × ((tau : ℚ) (c : ℕ) → c < p.columns → LeavesItsRows (negated_theta) (rising_value p tau c))
+    × ((tau : ℚ) (c : ℕ) → c < p.columns → LeavesItsRows (theta_value) (falling_value p tau c))

@@ -14,9 +14,9 @@ use Rattle.walk_model.specs.WalkTrails.{theta_value, AreWalkingSteps, value_afte
 use Rattle.walk_model.specs.WalkTrails.{ReachesProcessLimit, IsIntervalTrail, HasRisen, HasFallen, ReachesIntervalLimit}
 
 -- a walk goes on with the walking step of the basis to which it has led
-abbrev pub StepsMore : Type 0 → Type 0
-StepsMore F =
-    (when : F → ℚ) (f : Family) (reach : ℚ → Bool) (from : ℚ) (basis : List ℕ) (steps : List (Exchange F)) (x : Exchange F)
+abbrev pub StepsMore : Type 0
+StepsMore =
+    (when : Fraction → ℚ) (f : Family) (reach : ℚ → Bool) (from : ℚ) (basis : List ℕ) (steps : List Exchange) (x : Exchange)
     → AreWalkingSteps when f reach from basis steps
     → AtBasis f.sample (basis_after basis steps) (λ a. IsWalkingStep f (slice_index (basis_after basis steps)) a reach (value_after when f reach from steps)
     (when x.theta) x.position x.row)
@@ -33,17 +33,17 @@ WalkingStepIsUnique =
     → (t ≡ u) × (j ≡ k) × (r ≡ s)
 
 -- so a process that has come to its end within a limit excludes a trail that goes on
-abbrev pub ProcessTrailIsUnique : {F : Type 0} → (F → Fraction) → Type 0
-ProcessTrailIsUnique {F} value =
-    (p : Sample) (lo hi now : ℚ) (trail other : Trail F) (basis : List ℕ) (limit : ℕ) → HasCosts p lo → HasCosts p hi
-    → IsProcessTrail value p lo hi trail basis now
-    → IsWalkEnd (theta_value value) (over_quantiles p) (is_below hi) now basis
-    → length trail.steps ≤ limit → ¬ ReachesProcessLimit value p lo hi limit other
+abbrev pub ProcessTrailIsUnique : Type 0
+ProcessTrailIsUnique =
+    (p : Sample) (lo hi now : ℚ) (trail other : Trail) (basis : List ℕ) (limit : ℕ) → HasCosts p lo → HasCosts p hi
+    → IsProcessTrail p lo hi trail basis now
+    → IsWalkEnd (theta_value) (over_quantiles p) (is_below hi) now basis
+    → length trail.steps ≤ limit → ¬ ReachesProcessLimit p lo hi limit other
 
 -- and so does an interval of which both walks are at their ends
-abbrev pub IntervalTrailIsUnique : {F : Type 0} → (F → Fraction) → Type 0
-IntervalTrailIsUnique {F} value =
-    (p : Sample) (tau bound : ℚ) (c : ℕ) (trail other : Trail F) (basis : List ℕ) (limit : ℕ) → HasCosts p tau
-    → IsIntervalTrail value p tau c bound trail basis → HasRisen value p tau c bound trail basis
-    → HasFallen value p tau c bound trail basis → length trail.steps + length trail.rise + length trail.fall ≤ limit
-    → ¬ ReachesIntervalLimit value p tau c bound limit other
+abbrev pub IntervalTrailIsUnique : Type 0
+IntervalTrailIsUnique =
+    (p : Sample) (tau bound : ℚ) (c : ℕ) (trail other : Trail) (basis : List ℕ) (limit : ℕ) → HasCosts p tau
+    → IsIntervalTrail p tau c bound trail basis → HasRisen p tau c bound trail basis
+    → HasFallen p tau c bound trail basis → length trail.steps + length trail.rise + length trail.fall ≤ limit
+    → ¬ ReachesIntervalLimit p tau c bound limit other

@@ -14,15 +14,15 @@ use Rattle.walk_model.specs.Stays.{is_reported, ended_stays, AreSegmentsOf}
 
 -- from an optimal basis at lo the steps have led to the basis, with the inverse a, which is optimal
 -- at `now`, and the segments are those of the stays that they have ended
-pub record IsUnderway {F : Type 0} (value : F → Fraction) (p : Problem F) (lo hi : ℚ) (start : List ℕ) (steps : List (Exchange F)) (segments : List (Segment F))
+pub record IsUnderway {F : Type 0} (value : F → Fraction) (p : Problem F) (lo hi : ℚ) (start : List ℕ) (steps : List Exchange) (segments : List Segment)
     (now : ℚ) (basis : List ℕ) (a : ℕ → ℕ → ℚ) : Type 0 where
-  pub walked : AreWalkingSteps (theta_value value) (over_quantiles (sample value p)) (is_below hi) lo start steps
+  pub walked : AreWalkingSteps (theta_value) (over_quantiles (sample value p)) (is_below hi) lo start steps
   pub leads : basis_after start steps ≡ basis
-  pub reaches : value_after (theta_value value) (over_quantiles (sample value p)) (is_below hi) lo steps ≡ now
+  pub reaches : value_after (theta_value) (over_quantiles (sample value p)) (is_below hi) lo steps ≡ now
   pub size : length basis ≡ p.columns
   pub is_basis : IsBasis (sample value p) (slice_index basis) a
   pub ends : EndsAt p.columns a
   pub optimal : IsOptimalIn (over_quantiles (sample value p)) (slice_index basis) a now
   pub lower : lo ≤ℚ now
   pub upper : now ≤ℚ hi
-  pub segments_so_far : AreSegmentsOf value p (filter (is_reported lo hi) (ended_stays (theta_value value) lo start steps)) segments
+  pub segments_so_far : AreSegmentsOf value p (filter (is_reported lo hi) (ended_stays (theta_value) lo start steps)) segments

@@ -75,15 +75,15 @@ pub fn never_sticks()
 
 /// A walk goes on with a walking step.
 pub fn longer_walk<F: Exact>(theta: F)
-    ensures { StepsMore F }
+    ensures { StepsMore }
 {}
 
 /// At a basis there is one walking step at most, and so a process, and an interval, has one lawful
 /// trail.
 pub fn one_walk<F: Exact>(theta: F)
     ensures step { WalkingStepIsUnique }
-    ensures process { ProcessTrailIsUnique F.value }
-    ensures interval { IntervalTrailIsUnique F.value }
+    ensures process { ProcessTrailIsUnique }
+    ensures interval { IntervalTrailIsUnique }
 {}
 
 /// The segments of a walk over quantiles cover its range with optimal ends, and where two meet every
@@ -119,5 +119,5 @@ pub fn tested_ends()
 pub fn improving_steps<F: Exact>(theta: F)
     ensures quantiles { ChangeListFalls }
     ensures tested { CoefficientMoves }
-    ensures none_twice { NoBasisTwice F.value }
+    ensures none_twice { NoBasisTwice }
 {}

@@ -11,8 +11,15 @@
 //!
 //! `whole_tableau` calls it so, at the start and after an exchange:
 //! ```text
-//! let solution = held.solution(alloc)?;
-//! let solution = after.solution_after(self.alloc(), before, joint)?;
+//! match held.solution(alloc) {
+//!     Ok(solution) => Ok(WholeTableau::at(alloc, problem, setting, start, solution)),
+//!     Err(obstacle) => {
+//!         drop(start);
+//!         Err(obstacle)
+//!     }
+//! }
+//!
+//! let solution = after.solution_after(self.alloc(), self.solution(), joint)?;
 //! ```
 #![tactic(auto)]
 

@@ -27,7 +27,7 @@
 //! }
 //!
 //! let quantile = Quantile::<i128>::of(theta)?;
-//! let step = solving_step::<F>(self.alloc(), &station, quantile, columns)?;
+//! let step = solving_step(self.alloc(), &station, quantile, columns)?;
 //! ```
 #![tactic(auto)]
 

@@ -5,9 +5,8 @@
 //! polytope of the restricted problem, and the ends from the least losses of the fits that keep the tested
 //! coefficient.
 
-use loss_model::Bound;
 use slow_ranks::{
-    CRITICAL, Data, Ends, Parts, QUANTILES, RankTest, Ratio, Vertex, after, before, draw,
+    Bound, CRITICAL, Data, Ends, Parts, QUANTILES, RankTest, Ratio, Vertex, after, before, draw,
     draw_table, rank_test,
 };
 use std::alloc::Global;
@@ -71,14 +70,14 @@ fn fraction([num, den]: Parts) -> Ratio {
     Ratio::new(Wrapping(num), Wrapping(den))
 }
 
-fn bound(end: Option<Parts>) -> Bound<Ratio> {
+fn bound(end: Option<Parts>) -> Bound {
     match end {
         Some(end) => Bound::Finite(fraction(end)),
         None => Bound::Infinite,
     }
 }
 
-fn are_same(a: Bound<Ratio>, b: Bound<Ratio>) -> bool {
+fn are_same(a: Bound, b: Bound) -> bool {
     match (a, b) {
         (Bound::Finite(a), Bound::Finite(b)) => a.is_same(b),
         (Bound::Infinite, Bound::Infinite) => true,
@@ -193,7 +192,7 @@ struct Counts {
 }
 
 impl Counts {
-    fn add(&mut self, end: Bound<Ratio>) {
+    fn add(&mut self, end: Bound) {
         match end {
             Bound::Finite(_) => self.finite = self.finite.wrapping_add(1),
             Bound::Infinite => self.infinite = self.infinite.wrapping_add(1),

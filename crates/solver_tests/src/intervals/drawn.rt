@@ -1,7 +1,7 @@
 //! Intervals of drawn tables, compared with those of a slow program: of a drawn critical value, and of those at, just
 //! below and just above the statistic of a breakpoint. Of the 79 tables 66 have full rank.
 
-use crate::helpers::problem;
+use crate::helpers::{Answer, problem};
 use crate::intervals::helpers::{Question, answered, in_wholes};
 use frac_core::{Exact, Frac128};
 use loss_model::{Bound, Problem};
@@ -11,7 +11,7 @@ use slow_ranks::{
 use std::alloc::Global;
 use std::num::Wrapping;
 use std::process::Abort;
-use test_kit::ratio;
+use test_kit::short_parts;
 
 /// A column of a table that is tested: the problem, the question, and the slow test of it with the coefficients of
 /// all bases.
@@ -28,10 +28,12 @@ fn whole([num, den]: Parts) -> Ratio {
 }
 
 /// An end that is found is the one of the slow program.
-fn is_same(found: Bound<Frac128>, want: Bound<Ratio>) -> bool {
+fn is_same(found: &Bound<Answer>, want: slow_ranks::Bound) -> bool {
     match (found, want) {
-        (Bound::Finite(value), Bound::Finite(end)) => ratio(value) == (end.num.0, end.den.0),
-        (Bound::Infinite, Bound::Infinite) => true,
+        (Bound::Finite(value), slow_ranks::Bound::Finite(end)) => {
+            short_parts(value) == Some((end.num.0, end.den.0))
+        }
+        (Bound::Infinite, slow_ranks::Bound::Infinite) => true,
         _ => false,
     }
 }
@@ -49,7 +51,7 @@ impl Counts {
         self.intervals = self.intervals.wrapping_add(1);
         self.whole = self.whole.wrapping_add(u32::from(is_whole));
         for end in [ends.low, ends.high] {
-            if let Bound::Infinite = end {
+            if let slow_ranks::Bound::Infinite = end {
                 self.infinite = self.infinite.wrapping_add(1);
             }
         }
@@ -67,8 +69,8 @@ impl Tested {
             crit: (crit.num.0, crit.den.0),
         };
         let found = answered(rt, alloc, &self.problem, question, 1000);
-        assert!(rt; is_same(found.low.bound, want.low));
-        assert!(rt; is_same(found.high.bound, want.high));
+        assert!(rt; is_same(&found.low.bound, want.low));
+        assert!(rt; is_same(&found.high.bound, want.high));
         drop(found);
         let quick = in_wholes(rt, alloc, &self.problem, question, 1000);
         counts.add(&want, quick.is_some());

@@ -1,6 +1,6 @@
 //! Rank intervals as jobs: they enter the gate with their places, and their answers stand in the jobs' order.
 
-use crate::helpers::{Data, Ratio, fraction, problem, push};
+use crate::helpers::{Answer, Data, Ratio, fraction, problem, push};
 use frac_core::{Exact, Frac128};
 use loss_model::{Bound, Interval, Problem};
 use rank_inversion::IntervalJob;
@@ -8,7 +8,7 @@ use rq_fan::{Gate, run_jobs};
 use std::alloc::Global;
 use std::process::Abort;
 use std::sync::atomic::{AtomicU64, Ordering};
-use test_kit::{are_data, is_less, is_ordered, is_shaped, ratio};
+use test_kit::{are_data, is_less, is_ordered, is_shaped, short_parts};
 
 /// A gate that adds up the places that enter, each times itself: no other places have the sum.
 #[derive(Drop)]
@@ -51,9 +51,9 @@ fn job<'a>(
 }
 
 /// The value of a finite end.
-fn end(bound: Bound<Frac128>) -> Option<Ratio> {
+fn end(bound: &Bound<Answer>) -> Option<Ratio> {
     match bound {
-        Bound::Finite(value) => Some(ratio(value)),
+        Bound::Finite(value) => short_parts(value),
         Bound::Infinite => None,
     }
 }
@@ -63,9 +63,9 @@ static LINE: [Data; 3] = [([1, 0, 0], 0, 1), ([1, 1, 0], 2, 1), ([1, 3, 0], 3, 1
 
 static ENDS: [(Ratio, Ratio); 2] = [((0, 1), (3, 2)), ((1, 2), (2, 1))];
 
-fn expect_ends(rt: &impl Abort, found: &Interval<Frac128>, (low, high): (Ratio, Ratio)) {
-    assert!(rt; end(found.low.bound) == Some(low));
-    assert!(rt; end(found.high.bound) == Some(high));
+fn expect_ends(rt: &impl Abort, found: &Interval, (low, high): (Ratio, Ratio)) {
+    assert!(rt; end(&found.low.bound) == Some(low));
+    assert!(rt; end(&found.high.bound) == Some(high));
 }
 
 #[test]

@@ -25,16 +25,16 @@ loop-i-preserved c =
     let e = c.in_ok-value.value in
     let i = c.loop-i.i in
     let w = c.index-rows-i.result in
-    let scale = c.in_ok-scale.scale in
-    let at = c.in_ok-at.at in
+    let scale = c.in_ok-reach.reach.scale in
+    let at = c.in_ok-reach.reach.at in
     let grown : c.push.new.self ≡ made ++ e ∷ [] = search rules in
     let read : slice_get rows i ≡ Some w = slice_get_read rows (length rows) i w refl c.loop-i-test.true c.index-rows-i.is in
     let here : slice_get t.rows i ≡ Some w = rw (← c.as_slice-rows.ensures) read in
-    let is_at : whole at ≡ whole (pos scale) *ℚ rational (value128 c.args.end.theta) = c.in_ok-at.ensures {u = tt} in
+    let is_at : whole at ≡ whole (pos scale) *ℚ rational c.args.end.theta.now = (c.in_ok-reach.ensures {u = tt}).at_theta in
     let plain : to_z w128 (of_z w128 at) ≡ at = search rules in
-    let is_dual : IsRowDual (side_in v i) w scale at ((whole (pos scale) *ℚ whole (pos t.cost_scale)) *ℚ basic_value value128 v basic i) e = rw (plain) at (c.in_ok-value.ensures {u = tt}) in
+    let is_dual : IsRowDual (side_in v i) w scale at ((whole (pos scale) *ℚ whole (pos t.cost_scale)) *ℚ basic_value v basic i) e = rw (plain) at (c.in_ok-value.ensures {u = tt}) in
     rw (grown) (record {
       size = length_pushed made e i c.loop-i.invariant.size;
-      each = whole_pushed made e i (λ i. (whole (pos scale) *ℚ whole (pos t.cost_scale)) *ℚ dual_of (sample value128 p) (rational (value128 c.args.end.theta)) v basic i) c.loop-i.invariant.size c.loop-i.invariant.each
-          (row_value p t c.requires (rational (value128 c.args.end.theta)) (basic_value value128 v basic) i w here scale at is_at (side_in v i) e is_dual);
+      each = whole_pushed made e i (λ i. (whole (pos scale) *ℚ whole (pos t.cost_scale)) *ℚ dual_of (sample value128 p) (rational c.args.end.theta.now) v basic i) c.loop-i.invariant.size c.loop-i.invariant.each
+          (row_value p t c.requires (rational c.args.end.theta.now) (basic_value v basic) i w here scale at is_at (side_in v i) e is_dual);
     })

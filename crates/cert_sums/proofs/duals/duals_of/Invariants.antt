@@ -10,5 +10,5 @@ use Rattle.cert_sums.proofs.duals.duals_of.Given as goal
 abbrev pub invariant-loop-i : goal.invariant-loop-i
 invariant-loop-i l = record {
   size : length l.values ≡ l.i;
-  each : (i : ℕ) → i < l.i → whole_at l.values i ≡ (whole (pos l.scale) *ℚ whole (pos l.table.cost_scale)) *ℚ dual_of (sample value128 l.problem) (rational (value128 l.end.theta)) l.end.vertex.now l.end.basic.now i;
+  each : (i : ℕ) → i < l.i → whole_at l.values i ≡ (whole (pos l.reach.scale) *ℚ whole (pos l.table.cost_scale)) *ℚ dual_of (sample value128 l.problem) (rational l.end.theta.now) l.end.vertex.now l.end.basic.now i;
 }

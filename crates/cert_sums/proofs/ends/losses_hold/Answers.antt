@@ -2,7 +2,7 @@
 use Rattle.std.proofs.Common.{sym, ◌∙◌}
 use Rattle.rational_laws.specs.Fraction.{rational}
 use Rattle.frac_core.specs.Values.{value as value128}
-use Rattle.loss_model.specs.Problem.{sample, value_at}
+use Rattle.loss_model.specs.Problem.{number_at, sample}
 use Rattle.loss_model.specs.Vertex.{basic_value}
 use Rattle.cert_sums.specs.Duals.{side_in}
 use Rattle.cert_sums.specs.Ends.{low_dual, high_dual}
@@ -16,7 +16,7 @@ returns-else-not-comes_to-clause-low c =
     let on = c.follow_sides.ensures c.if-not-follow_sides.false in
     let objective = c.comes_to.ensures c.if-not-comes_to.false (low_dual p s) c.in-Some.ensures.low in
     λ h. record {
-      lost = objective ∙ sym (lost_by_sides (sample value128 p) (rational (value128 s.lo)) (value_at value128 s.vertex.coef) (basic_value value128 s.vertex s.basic_lo) (side_in s.vertex) c.requires.low on);
+      lost = objective ∙ sym (lost_by_sides (sample value128 p) (rational s.lo) (number_at s.vertex.coef) (basic_value s.vertex s.basic_lo) (side_in s.vertex) c.requires.low on);
       objective = objective;
     }
 
@@ -27,6 +27,6 @@ returns-else-not-comes_to-clause-high c =
     let on = c.follow_sides.ensures c.if-not-follow_sides.false in
     λ h. let objective = c.comes_to-in-Some.ensures h (high_dual p s) c.in-Some.ensures.high in
     record {
-      lost = objective ∙ sym (lost_by_sides (sample value128 p) (rational (value128 s.hi)) (value_at value128 s.vertex.coef) (basic_value value128 s.vertex s.basic_hi) (side_in s.vertex) c.requires.high on);
+      lost = objective ∙ sym (lost_by_sides (sample value128 p) (rational s.hi) (number_at s.vertex.coef) (basic_value s.vertex s.basic_hi) (side_in s.vertex) c.requires.high on);
       objective = objective;
     }

@@ -3,13 +3,11 @@ use Rattle.std.proofs.Common.{rules, ◌≡◌, ℕ, ◌++◌, ◌∷◌, [], le
 use Rattle.std.specs.Prelude.{slice_get, Option, Some}
 use Rattle.std.specs.Option.{option_map_or}
 use Rattle.std.proofs.lemmas.Option.{slice_get_read}
-use Rattle.rational_laws.specs.Fraction.{rational}
+use Rattle.rational_laws.specs.Fraction.{Fraction, rational}
 use Rattle.rational_laws.specs.Rational.{ℚ, ◌-ℚ◌, ◌*ℚ◌, whole}
 use Rattle.rational_laws.proofs.Lists.{length_pushed}
 use Rattle.rational_laws.specs.Terms.{delta}
-use Rattle.frac_core.specs.declared.frac128.Frac128.{Frac128}
-use Rattle.frac_core.specs.Values.{value as value128}
-use Rattle.loss_model.specs.Problem.{value_at}
+use Rattle.loss_model.specs.Problem.{number_at}
 use Rattle.rational_laws.proofs.WholeLists.{whole_pushed}
 use Rattle.cert_sums.proofs.projection.left_factors.Goals as goal
 
@@ -19,11 +17,12 @@ loop-k-preserved c =
     let made = c.loop-k.made in
     let k = c.loop-k.k in
     let number = c.in_ok-number.number in
-    let left : ℕ → ℚ = λ k. whole (pos c.args.scale) *ℚ (delta k c.args.column -ℚ value_at value128 factors k) in
+    let left : ℕ → ℚ = λ k. whole (pos c.args.scale) *ℚ (delta k c.args.column -ℚ number_at factors k) in
     let grown : c.push.new.self ≡ made ++ number ∷ [] = search rules in
     let read : slice_get factors k ≡ Some c.index-factors-k.result = slice_get_read factors (length factors) k c.index-factors-k.result refl c.loop-k-test.true c.index-factors-k.is in
     let factor = (c.in_ok-factor.ensures {u = tt})
-    ∙ sym (ap (λ (o : Option Frac128). delta k c.args.column -ℚ option_map_or (λ x. rational (value128 x)) o (whole (pos 0))) read) in
+    ∙ ap (λ z. delta k c.args.column -ℚ z) (c.in_ok-stated.ensures {u = tt})
+    ∙ sym (ap (λ (o : Option Fraction). delta k c.args.column -ℚ option_map_or (λ x. rational x) o (whole (pos 0))) read) in
     let is : whole number ≡ left k = (c.in_ok-number.ensures {u = tt}) ∙ ap (λ z. whole (pos c.args.scale) *ℚ z) factor in
     rw (grown) (record {
       size = length_pushed made number k c.loop-k.invariant.size;

@@ -9,6 +9,7 @@ use Rattle.wide_int.specs.Numbers.{total}
 use Rattle.cert_sums.specs.Ranks.{left_at}
 use Rattle.cert_sums.specs.declared.table.WholeRow.{WholeRow}
 use Rattle.rational_laws.proofs.WholeLists.{whole_pushed}
+use Rattle.cert_sums.proofs.RowsOf.{row_narrow}
 use Rattle.cert_sums.proofs.projection.left_values.Goals as goal
 
 pub loop-i-preserved : goal.loop-i-preserved
@@ -24,7 +25,7 @@ loop-i-preserved c =
     let grown : c.push.new.self ≡ made ++ v ∷ [] = search rules in
     let read : slice_get rows i ≡ Some w = slice_get_read rows (length rows) i w refl c.loop-i-test.true c.index-rows-i.is in
     let here : slice_get t.rows i ≡ Some w = rw (← c.as_slice-rows.ensures) read in
-    let sum : left ≡ total w.cells numbers = c.row_product-left.ensures ∙ ap (λ xs. total xs numbers) c.as_slice.ensures in
+    let sum : left ≡ total w.cells numbers = c.row_product-left.ensures ∙ ap (λ xs. total xs numbers) (c.as_slice.ensures ∙ row_narrow t.rows c.requires.narrow i w here) in
     let product : v ≡ (left *ℤ w.up.slope) *ℤ w.up.slope = search rules in
     rw (grown) (record {
       size = length_pushed made v i c.loop-i.invariant.size;

@@ -7,4 +7,4 @@ use Rattle.cert_sums.specs.declared.table.WholeRow.{WholeRow}
 use Rattle.cert_sums.proofs.residuals.narrow_rows_follow.Given as goal
 
 abbrev pub invariant-loop-i : goal.invariant-loop-i
-invariant-loop-i l = (i : ℕ) (w : WholeRow) → i < l.i → slice_get l.rows i ≡ Some w → IsWholeOn (side_in l.vertex i) (total w.cells l.numbers)
+invariant-loop-i l = (i : ℕ) (w : WholeRow) → i < l.i → slice_get l.rows i ≡ Some w → IsWholeOn (side_in l.vertex i) (total w.narrow l.numbers)

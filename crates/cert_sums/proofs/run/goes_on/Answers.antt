@@ -1,17 +1,13 @@
 -- One quantile, and each row whose side does not settle it has one dual value.
 use Rattle.std.proofs.Common.{◌≡◌, length, ap, subst, ◌∙◌}
 use Rattle.std.specs.List.{All}
-use Rattle.rational_laws.specs.Fraction.{rational}
-use Rattle.frac_core.specs.Values.{value as value128}
 use Rattle.cert_sums.specs.Ends.{low_dual, high_dual}
 use Rattle.cert_sums.specs.Slopes.{unsettled_rows}
-use Rattle.cert_sums.proofs.Scales.{same_from_test}
 use Rattle.cert_sums.proofs.SlopeSums.{met}
 use Rattle.cert_sums.proofs.run.goes_on.Goals as goal
 
 pub meet_in-requires-clause-same : goal.meet_in-requires-clause-same
-meet_in-requires-clause-same c =
-    same_from_test (rational (value128 c.args.segment.now.hi)) (rational (value128 c.args.next.now.lo)) c.compare-2.result c.is_eq-2.result c.compare-2.ensures c.is_eq-2.ensures c.if-not-is_eq-2.false
+meet_in-requires-clause-same c = c.is_same-2.ensures c.if-not-is_same-2.false
 
 pub returns-clause-meets : goal.returns-clause-meets
 returns-clause-meets c =
@@ -19,12 +15,10 @@ returns-clause-meets c =
     let t = c.args.whole.table.now in
     let s = c.args.segment.now in
     let next = c.args.next.now in
-    let hi = rational (value128 s.hi) in
     let made : c.in_ok-unsettled.unsettled ≡ unsettled_rows s.vertex.sides next.vertex.sides (length t.rows)
     = rw (c.as_slice-old.ensures, c.as_slice-new.ensures, c.as_slice-rows.ensures) at (c.in_ok-unsettled.ensures {u = tt}) in
-    met p s next (same_from_test hi (rational (value128 next.lo)) c.compare-2.result c.is_eq-2.result c.compare-2.ensures c.is_eq-2.ensures c.if-not-is_eq-2.false)
+    met p s next (c.is_same-2.ensures c.if-not-is_same-2.false)
     (subst (λ xs. All (λ i. high_dual p s i ≡ low_dual p next i) xs) (c.as_slice.ensures ∙ made ∙ ap (unsettled_rows s.vertex.sides next.vertex.sides) c.requires.table.size) (c.meet_in.ensures c.if-not-meet_in.false))
 
 pub returns-clause-loss : goal.returns-clause-loss
-returns-clause-loss c =
-    same_from_test (rational (value128 c.args.segment.now.loss_hi)) (rational (value128 c.args.next.now.loss_lo)) c.compare.result c.is_eq.result c.compare.ensures c.is_eq.ensures c.if-not-is_eq.false
+returns-clause-loss c = c.is_same.ensures c.if-not-is_same.false

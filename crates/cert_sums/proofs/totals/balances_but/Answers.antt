@@ -1,10 +1,17 @@
 -- Sums of whole numbers that are 0.
+use Rattle.std.proofs.Common.{length, ap, ◌∙◌}
 use Rattle.rational_laws.specs.WholeLists.{whole_at}
 use Rattle.cert_sums.proofs.Balanced.{wide_rows, balanced_but}
 use Rattle.cert_sums.proofs.totals.balances_but.Goals as goal
 
 pub vanish-requires-clause-wide : goal.vanish-requires-clause-wide
-vanish-requires-clause-wide c = rw (c.as_slice.ensures) (wide_rows c.args.problem.now c.args.table.now c.requires.table)
+vanish-requires-clause-wide c =
+    let narrow = c.requires.table.narrow c.if-not-table.false in
+    let wide = wide_rows c.args.problem.now c.args.table.now c.requires.table in
+    rw (c.as_slice.ensures) (λ k d l. ap length (narrow k d l) ∙ wide k d l)
+
+pub vanish-requires-clause-narrow : goal.vanish-requires-clause-narrow
+vanish-requires-clause-narrow c = rw (c.as_slice.ensures) (c.requires.table.narrow c.if-not-table.false)
 
 pub returns : goal.returns
 returns c =

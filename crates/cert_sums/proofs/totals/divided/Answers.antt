@@ -1,5 +1,5 @@
 -- The sum of whole numbers, over both scales.
-use Rattle.std.proofs.Common.{rules, ◌≡◌, ◌*◌, pos, to_z, of_z, arith, ap, ◌∙◌}
+use Rattle.std.proofs.Common.{rules, ◌≡◌, ◌*◌, pos, length, to_z, of_z, arith, ap, ◌∙◌}
 use mir.Syntax.{w128}
 use Rattle.rational_laws.specs.Fraction.{rational}
 use Rattle.rational_laws.specs.Rational.{◌*ℚ◌, whole, inverse}
@@ -13,7 +13,11 @@ pub column_product-total-requires-clause-wide : goal.column_product-total-requir
 column_product-total-requires-clause-wide c =
     let rows = c.args.table.now.rows in
     let wide = wide_rows c.args.problem.now c.args.table.now c.requires.table in
-    rw (c.as_slice.ensures) (λ k d l. let e = wide k d l in omega (arith, e, c.requires.place))
+    let narrow = c.requires.table.narrow c.if-not-table.false in
+    rw (c.as_slice.ensures) (λ k d l. let e = wide k d l in let same = ap length (narrow k d l) in omega (arith, e, same, c.requires.place))
+
+pub column_product-total-requires-clause-narrow : goal.column_product-total-requires-clause-narrow
+column_product-total-requires-clause-narrow c = rw (c.as_slice.ensures) (c.requires.table.narrow c.if-not-table.false)
 
 pub returns : goal.returns
 returns c =

@@ -1,6 +1,5 @@
-use Rattle.std.proofs.Common.{◌+◌, length, map, option_map, drop, true, sym, ap, ◌∙◌}
+use Rattle.std.proofs.Common.{◌+◌, length, drop, true, sym, ap, ◌∙◌}
 use Rattle.cert_text.specs.Chains.{follows_any, are_chained}
-use Rattle.cert_text.specs.Contents.{exact_segment}
 use Rattle.cert_text.proofs.Chained.{chained_next, after_next}
 use Rattle.cert_text.proofs.chain.is_chained.Goals as goal
 
@@ -12,5 +11,5 @@ loop-i-preserved c =
     let s = c.index-segments-i.result in
     let lt = c.loop-i-test.true in
     chained_next rows ss i s lt c.index-segments-i.is c.loop-i.invariant true true (sym (c.if-not-is_filled.ensures {u = tt}))
-    (ap (λ o. follows_any (option_map exact_segment o) (exact_segment s)) (sym c.last.ensures) ∙ sym c.in_ok-follows_any.ensures ∙ c.if-not-branch.false)
-    ∙ ap (λ o. are_chained rows (option_map exact_segment o) (map exact_segment (drop (i + 1) ss))) (sym (after_next rows ss i s lt c.index-segments-i.is c.loop-i.invariant))
+    (ap (λ o. follows_any o s) (sym c.last.ensures) ∙ sym c.in_ok-follows_any.ensures ∙ c.if-not-branch.false)
+    ∙ ap (λ o. are_chained rows o (drop (i + 1) ss)) (sym (after_next rows ss i s lt c.index-segments-i.is c.loop-i.invariant))

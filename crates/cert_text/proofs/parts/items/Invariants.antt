@@ -5,5 +5,5 @@ use Rattle.cert_text.proofs.parts.items.Given as goal
 
 abbrev pub invariant-loop-i : goal.invariant-loop-i
 invariant-loop-i g l =
-    IsReadUpTo (λ before. g.T.FromJson.reader) (items_view l.values) l.i (items_view (drop l.i l.values)) (map g.T.FromJson.content l.found.items)
+    IsReadUpTo (λ before. g.T.FromJson.reader l.width) (items_view l.values) l.i (items_view (drop l.i l.values)) (map g.T.FromJson.content l.found.items)
     × All g.T.FromJson.IsKept l.found.items

@@ -4,7 +4,7 @@ use Rattle.pivot_laws.proofs.laws.no_basis_twice.Goals as goal
 pub returns : goal.returns
 returns g c =
     record {
-      solve = λ p theta trail basis costs u. solve_apart g.F.Exact.value p theta costs u.first trail.steps u.lawful;
-      process = λ p lo hi now trail basis costs u. process_apart g.F.Exact.value p lo hi now trail basis costs u;
-      interval = λ p tau c bound trail basis costs lc u. interval_apart g.F.Exact.value p tau c bound trail basis costs lc u;
+      solve = λ p theta trail basis costs u. solve_apart p theta costs u.first trail.steps u.lawful;
+      process = λ p lo hi now trail basis costs u. process_apart p lo hi now trail basis costs u;
+      interval = λ p tau c bound trail basis costs lc u. interval_apart p tau c bound trail basis costs lc u;
     }

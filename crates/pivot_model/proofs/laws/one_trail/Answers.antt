@@ -6,5 +6,5 @@ returns g c =
     record {
       step = one_step;
       stop = no_step;
-      trail = λ p theta trail other basis limit costs u stop short. one_trail g.F.Exact.value p theta costs trail other basis limit u stop short;
+      trail = λ p theta trail other basis limit costs u stop short. one_trail p theta costs trail other basis limit u stop short;
     }

@@ -1,5 +1,6 @@
 use Rattle.std.proofs.Common.{◌≡◌, ◌+◌, ◌≤◌, length, refl, sym, ap, subst, ◌∙◌, arith}
 use Rattle.std.proofs.lemmas.List.{length_push}
+use Rattle.rank_tableau.specs.Walks.{exchange_of}
 use Rattle.rank_inversion.specs.declared.walking.Walk.{Walk}
 use Rattle.rank_inversion.specs.Walks.{IsAdvanced, IsEnded}
 use Rattle.rank_inversion.proofs.WalkLaws.{along_begins, along_optimal, along_column, along_goes_on, along_ended, along_limit, along_halted}
@@ -29,7 +30,7 @@ loop-preserved g c =
     let made : IsAdvanced value c.args.course.now c.loop.walk c.advance.new.self = rw c.in-Ok-None.field-0-is at (c.in-Ok-None.ensures {u = tt}).next in
     record {
       along = along_goes_on value start.problem c.args.course.now start.rows c.loop.walk c.advance.new.self c.requires.costs c.loop.invariant.along made;
-      counted = ap length made.steps ∙ length_push c.loop.walk.steps made.step ∙ ap (λ n. n + 1) c.loop.invariant.counted;
+      counted = ap length made.steps ∙ length_push c.loop.walk.steps (exchange_of value made.step) ∙ ap (λ n. n + 1) c.loop.invariant.counted;
     }
 
 pub returns-in-Ok-Some-clause-ended : goal.returns-in-Ok-Some-clause-ended

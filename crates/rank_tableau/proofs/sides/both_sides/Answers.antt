@@ -19,8 +19,6 @@ returns-in-Ok g c =
     let made : length c.as_slice.result.now ≡ length up.steps = ap length c.as_slice.ensures in
     let rest : length down.steps ≤ limit - length c.as_slice.result.now = fall.short in
     record {
-      factors = test.factors;
-      listed = test.listed;
       size = test.size;
       projection = test.projection;
       positive = test.positive;

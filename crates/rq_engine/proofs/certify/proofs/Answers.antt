@@ -5,13 +5,13 @@ use Rattle.rq_engine.specs.Intervals.{HasFactors}
 use Rattle.rq_engine.proofs.Certifying.{nothing_left, stated_more}
 use Rattle.rq_engine.proofs.certify.proofs.Goals as goal
 
-pub proof_of-requires-after_bounds : goal.proof_of-requires-after_bounds
-proof_of-requires-after_bounds g c κs within =
+pub proof_of-requires : goal.proof_of-requires
+proof_of-requires c =
     let steps : into_iter_items c.loop-interval.interval-iterator ≡ c.in-Some.interval ∷ into_iter_items c.next.new.self = c.in-Some.ensures.steps.0 in
     subst (All HasFactors) steps c.loop-interval.invariant.listed 0 c.in-Some.interval (omega arith)
 
 pub loop-interval-preserved : goal.loop-interval-preserved
-loop-interval-preserved g c =
+loop-interval-preserved c =
     let at = c.loop-interval in
     let r = c.in-Some.interval in
     let left = into_iter_items c.next.new.self in
@@ -25,7 +25,7 @@ loop-interval-preserved g c =
     }
 
 pub returns : goal.returns
-returns g c =
+returns c =
     let at = c.loop-interval in
     let done : into_iter_items at.interval-iterator ≡ [] = nothing_left _ (sym at.invariant.counted ∙ c.in-None.ensures.steps.0) in
     sym (append-nil (map Some at.proofs))

@@ -6,7 +6,7 @@ use Rattle.rq_engine.proofs.certify.proofs.Given as goal
 
 -- what is stated of the intervals so far and of those that are left is stated of all
 abbrev pub invariant-loop-interval : goal.invariant-loop-interval
-invariant-loop-interval g l = record {
+invariant-loop-interval l = record {
   all_stated : map Some l.proofs ++ map statement (into_iter_items l.interval-iterator) ≡ map statement l.fn.intervals;
   listed : All HasFactors (into_iter_items l.interval-iterator);
   counted : into_iter_len l.interval-iterator ≡ length (into_iter_items l.interval-iterator);

@@ -1,15 +1,10 @@
 use Rattle.std.proofs.Common.{subst}
 use Rattle.cert_checker.specs.Certificates.{IsVerdict}
-use Rattle.rq_engine.proofs.Checks.{read_within, stop_cause}
 use Rattle.rq_engine.proofs.check.check_bytes.Goals as goal
 
 pub check-requires : goal.check-requires
-check-requires g c = (c.type_bounds.sync-R, (c.type_bounds.sync-G, read_within c.args.bytes.now c.in-Ok.cert c.in-Ok.ensures.ok))
-
-pub returns-in-Err-check-clause-cause : goal.returns-in-Err-check-clause-cause
-returns-in-Err-check-clause-cause g c =
-    rw c.check_halt.ensures (stop_cause c.args.bytes.now c.in-Ok.cert c.in-Ok.ensures.ok c.in-Err-check.stop c.in-Err-check.ensures.stop c.in-Err-check.ensures.untrue)
+check-requires g c = (c.type_bounds.sync-R, (c.type_bounds.sync-G, c.read_is_within.ensures c.args.bytes.now c.in-Ok.cert c.in-Ok.ensures.ok))
 
 pub returns-in-Rejected-clause-cause : goal.returns-in-Rejected-clause-cause
 returns-in-Rejected-clause-cause g c =
-    record { cert = c.in-Ok.cert; is = c.in-Ok.ensures.ok; first = subst (IsVerdict c.in-Ok.cert) c.in-Rejected.is c.in-Ok-check.ensures.verdict }
+    record { cert = c.in-Ok.cert; is = c.in-Ok.ensures.ok; first = subst (IsVerdict c.in-Ok.cert) c.in-Rejected.is c.in-Ok-check.ensures }

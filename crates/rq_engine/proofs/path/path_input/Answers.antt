@@ -4,7 +4,7 @@ use Rattle.rq_engine.proofs.path.path_input.Goals as goal
 
 right : goal.returns-in-Ok-process-clause-right
 right c =
-    let process = right_process c.args.job.now.fit c.in-Ok.problem c.in-Ok-process.walked c.in-Ok-process.ensures.process c.in-Ok-process.ensures.short (λ some. c.in-Ok-process.ensures.limited some) in
+    let process = right_process c.args.job.now.fit c.in-Ok.problem c.in-Ok-process.walked c.in-Ok-process.ensures.process c.in-Ok-process.ensures.short (rw c.as_slice.ensures at c.all_lowest_segments.ensures) (λ some. c.in-Ok-process.ensures.limited some) in
     record {
       kept = c.fit_of.ensures.kept;
       dropped = c.fit_of.ensures.dropped;

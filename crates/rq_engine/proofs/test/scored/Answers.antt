@@ -39,7 +39,7 @@ returns-in-Ok-wilcoxon-clause-right c =
     let walked = c.in-Ok-process.process in
     let made = c.in-Ok-process.ensures.process in
     scored_there fit c.args.full.now c.args.job.now.tested q (rw c.as_slice.ensures at c.in-Ok.ensures.restricted) walked c.in-Ok-wilcoxon.wilcoxon (record {
-      process = right_process fit q walked made c.in-Ok-process.ensures.short (λ some. c.in-Ok-process.ensures.limited some);
+      process = right_process fit q walked made c.in-Ok-process.ensures.short (rw c.as_slice-2.ensures at c.all_lowest_segments.ensures) (λ some. c.in-Ok-process.ensures.limited some);
       covers = process_covers fit c.requires.ask q walked made c.in-Ok-process.ensures.short;
       scores = c.in-Ok-wilcoxon.ensures;
     })

@@ -2,7 +2,7 @@ use Rattle.std.proofs.Common.{◌≡◌, ◌+◌, length, sym, ap, subst, arith,
 use Rattle.std.proofs.lemmas.List.{length_push}
 use Rattle.rational_laws.specs.Fraction.{rational}
 use Rattle.tableau_model.specs.Questions.{walking}
-use Rattle.tableau.specs.Walking.{now_of, here_of, IsWalkHalted}
+use Rattle.tableau.specs.Walking.{now_of, here_of, exchange_of, IsWalkHalted}
 use Rattle.tableau.proofs.Halts.{refusal_kept}
 use Rattle.tableau.proofs.Walks.{costs_here, optimal_now, goes_on, walk_refused, limit_walked}
 use Rattle.tableau.proofs.walking.walk_over.Goals as goal
@@ -39,9 +39,10 @@ returns-in-Err-clause-halted g c =
 
 pub loop-preserved : goal.loop-preserved
 loop-preserved g c =
+    let value = g.F.Exact.value in
     let w = c.loop.walk in
     let k = rw c.in-Ok-true.field-0-test at (c.in-Ok-true.ensures {u = tt}).next in
-    let longer : length c.advance.new.self.reached.trail.steps ≡ length w.reached.trail.steps + 1 = ap length k.trail.steps ∙ length_push w.reached.trail.steps k.step in
+    let longer : length c.advance.new.self.reached.trail.steps ≡ length w.reached.trail.steps + 1 = ap length k.trail.steps ∙ length_push w.reached.trail.steps (exchange_of value k.step) in
     record {
       walking = goes_on w c.advance.new.self c.requires.costs_lo c.requires.costs_hi c.loop.invariant.walking k;
       counted = omega (arith, longer, c.loop.invariant.counted);

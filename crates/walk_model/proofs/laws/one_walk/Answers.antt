@@ -6,6 +6,6 @@ pub returns : goal.returns
 returns g c =
     record {
       step = one_walking_step;
-      process = λ p lo hi now trail other basis limit costs costs' u stop short. one_process g.F.Exact.value p lo hi costs costs' now trail other basis limit u stop short;
-      interval = λ p tau bound k trail other basis limit costs u risen fallen short. one_interval g.F.Exact.value p tau k bound costs trail other basis limit u risen fallen short;
+      process = λ p lo hi now trail other basis limit costs costs' u stop short. one_process p lo hi costs costs' now trail other basis limit u stop short;
+      interval = λ p tau bound k trail other basis limit costs u risen fallen short. one_interval p tau k bound costs trail other basis limit u risen fallen short;
     }

@@ -1,7 +1,8 @@
-use Rattle.std.proofs.Common.{length, inr}
+use Rattle.std.proofs.Common.{length, map, ap, inr, ◌∙◌}
 use Rattle.std.proofs.lemmas.Result.{err_from_is_err_and}
 use Rattle.rational_laws.specs.Fraction.{rational}
 use Rattle.loss_model.specs.Problem.{value_at}
+use Rattle.tableau_model.proofs.Vertices.{duals_by_row}
 use Rattle.fraction_tableau.specs.Next.{IsDualFault}
 use Rattle.fraction_tableau.specs.Ends.{end_number, IsEndedSpill}
 use Rattle.fraction_tableau.specs.Kept.{place}
@@ -27,21 +28,25 @@ returns-in_err-duals-clause-spill g c =
 pub by_row-requires-clause-members : goal.by_row-requires-clause-members
 by_row-requires-clause-members g c κs within = rw (c.as_slice-rows.ensures, c.basis.ensures.rows) c.requires.members
 
-pub returns-in_err-loss-clause-spill : goal.returns-in_err-loss-clause-spill
-returns-in_err-loss-clause-spill g c =
-    let returned = err_from_is_err_and c.from_residual-in_err-loss.result c.from_residual-in_err-loss.ensures.1 in
-    rw (returned.1, returned.2) (inr (c.in_err-loss.ensures {u = tt}).spill)
+pub returns-in_err-total-clause-spill : goal.returns-in_err-total-clause-spill
+returns-in_err-total-clause-spill g c =
+    let returned = err_from_is_err_and c.from_residual-in_err-total.result c.from_residual-in_err-total.ensures.1 in
+    rw (returned.1, returned.2) (inr (c.in_err-total.ensures {u = tt}).spill)
 
 pub returns-clause-ended : goal.returns-clause-ended
 returns-clause-ended g c =
     let value = g.F.Exact.value in
     let view = c.args.self.now in
-    let made = rw (c.as_slice.ensures, c.as_slice-2.ensures) at (c.in_ok-duals.ensures {u = tt}) in
-    let values = rw (c.as_slice-rows.ensures, c.basis.ensures.rows, c.as_slice-3.ensures) at (c.in_ok-basic.ensures {u = tt}) in
+    let h = place value view.tableau.now in
+    let theta = rational (value c.args.theta) in
+    let is_place = kept_is_place value view.tableau.now c.requires.view.kept in
+    let duals = rw (c.as_slice.ensures, c.as_slice-2.ensures) at (c.in_ok-duals.ensures {u = tt}) in
+    let are_duals = duals_here value h theta view.solution.now c.requires.view.solution c.in_ok-duals.duals duals.size duals.each in
+    let values = rw (c.as_slice-rows.ensures, c.basis.ensures.rows, c.as_slice-3.ensures) at (c.in_ok-values.ensures {u = tt}) in
+    let made = (c.in_ok-basic.ensures {u = tt}) ∙ ap (map value) c.as_slice-4.ensures in
+    let wide = duals_by_row value h is_place theta c.in_ok-duals.duals are_duals c.args.sorted.now c.in_ok-values.values c.in_ok-basic.basic made values.size values.each in
     record {
-      duals = c.in_ok-duals.duals;
-      are_duals = duals_here value (place value view.tableau.now) (rational (value c.args.theta)) view.solution.now c.requires.view.solution c.in_ok-duals.duals made.size made.each;
-      size = values.size;
-      each = values.each;
-      loss = (c.in_ok-loss.ensures {u = tt}).exact;
+      size = wide.0;
+      each = wide.1;
+      loss = ap rational (c.in_ok-loss.ensures {u = tt}) ∙ (c.in_ok-total.ensures {u = tt}).exact;
     }

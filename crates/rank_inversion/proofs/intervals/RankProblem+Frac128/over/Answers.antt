@@ -5,7 +5,7 @@ use Rattle.rank_inversion.specs.Jobs.{range}
 use Rattle.rank_inversion.specs.Answers.{IsIntervalAnswer}
 use Rattle.rank_inversion.specs.AllIntervals.{asked_over}
 use Rattle.rank_inversion.specs.Until.{AreAnswered}
-use Rattle.rank_inversion.proofs.FirstStops.{all_made, all_starts, first_first, interval_first, none_stops}
+use Rattle.rank_inversion.proofs.FirstStops.{all_listed, all_starts, first_first, interval_first, none_stops}
 use Rattle.rank_inversion.proofs.intervals.RankProblem+Frac128.over.Goals as goal
 
 pub returns-in-Err-clause-stopped : goal.returns-in-Err-clause-stopped
@@ -44,12 +44,12 @@ returns-clause-right g c =
     (none_stops value range self c.args.taus.now starts (c.in-Ok.ensures {u = tt}) made
     (subst (AreAnswered (IsIntervalAnswer value range self) asked made) c.in_default.is (rw c.as_slice.ensures.value at (c.in-Ok-intervals.ensures {u = tt}))))
 
-pub returns-clause-purpose : goal.returns-clause-purpose
-returns-clause-purpose g c =
+pub returns-clause-listed : goal.returns-clause-listed
+returns-clause-listed g c =
     let self = c.args.self.now in
     let starts = c.in-Ok.starts.items in
     let made = c.in-Ok-intervals.intervals.done.items in
     let asked = asked_over self.crit self.problem.now.columns (map (λ at. at.tau) starts) in
     rw c.from.ensures
-    (all_made value range self c.args.taus.now starts (c.in-Ok.ensures {u = tt}) made
+    (all_listed value range self asked made
     (subst (AreAnswered (IsIntervalAnswer value range self) asked made) c.in_default.is (rw c.as_slice.ensures.value at (c.in-Ok-intervals.ensures {u = tt}))))

@@ -1,4 +1,5 @@
 use Rattle.std.proofs.Common.{◌≡◌, ◌≤◌, ◌-◌, length, ap, arith}
+use Rattle.rank_inversion.proofs.Inverted.{joined_is}
 use Rattle.rank_inversion.proofs.inversion.Inversion.interval.Goals as goal
 
 pub rise_stop-requires-clause-halted : goal.rise_stop-requires-clause-halted
@@ -36,13 +37,20 @@ fall_stop-requires-clause-halted g c κs within =
       halted = (c.in-Err-walk.ensures {u = tt}).halted;
     }
 
-pub joined-requires-clause-risen : goal.joined-requires-clause-risen
-joined-requires-clause-risen g c κs within =
+pub returns-in-Ok-joined-clause-interval : goal.returns-in-Ok-joined-clause-interval
+returns-in-Ok-joined-clause-interval g c =
     let v = c.args.self.now in
     let made : length c.as_slice.result.now ≡ length v.solved.now.trail.steps = ap length c.as_slice.ensures in
     let short : length v.solved.now.trail.steps ≤ v.limit = c.requires.ready.short in
-    record {
-      left = v.limit - length c.as_slice.result.now;
-      count = omega (arith, made, short);
-      ended = (c.in-Ok.ensures {u = tt}).ended;
-    }
+    let up = c.in-Ok.rise in
+    let risen : length c.as_slice-2.result.now ≡ length up.steps = ap length c.as_slice-2.ensures in
+    let ended = (c.in-Ok.ensures {u = tt}).ended in
+    let few : length up.steps ≤ v.limit - length c.as_slice.result.now = ended.short in
+    rw (c.in-Ok-joined.ensures {u = tt})
+    (joined_is g.F.Exact.value v c.requires.ready c.args.factors c.requires.tested up c.in-Ok-walk.fall
+    (record { left = v.limit - length c.as_slice.result.now; count = omega (arith, made, short); ended = ended })
+    (record {
+      left = v.limit - length c.as_slice.result.now - length c.as_slice-2.result.now;
+      count = omega (arith, made, short, risen, few);
+      ended = (c.in-Ok-walk.ensures {u = tt}).ended;
+    }))

@@ -1,6 +1,7 @@
-use Rattle.std.proofs.Common.{slice_index}
+use Rattle.std.proofs.Common.{slice_index, ap, ◌∙◌}
 use Rattle.std.proofs.lemmas.Result.{err_from_is_err_and}
 use Rattle.fraction_tableau.proofs.Refusals.{short_weaker}
+use Rattle.rational_laws.specs.Fraction.{rational}
 use Rattle.rational_laws.proofs.Lists.{contains_item}
 use Rattle.loss_model.specs.Spill.{AtSome}
 use Rattle.rank_inversion.specs.Nexts.{IsSpillHere, IsWeighingSpill}
@@ -46,7 +47,7 @@ returns-clause-end g c =
     let weight = c.turned-weight.result in
     let inside = rw c.as_slice.ensures at (c.in_ok-inside.ensures {u = tt}) in
     let outside = rw c.as_slice-2.ensures at (c.in_ok-outside.ensures {u = tt}) in
-    finite_end_is value v c.requires.station c.args.from c.args.next c.requires.beyond vertex (c.in_ok-vertex.ensures {u = tt}) c.index-as_slice-column.result c.in_ok-inside.inside c.in_ok-outside.outside
-    (coef_read value v c.requires.station c.index-as_slice-column.result (rw c.as_slice-3.ensures at c.index-as_slice-column.is))
+    finite_end_is value v c.requires.station c.args.from c.args.next c.requires.beyond vertex (c.in_ok-vertex.ensures {u = tt}) c.in_ok-value.value c.in_ok-inside.inside c.in_ok-outside.outside
+    (ap rational (c.in_ok-value.ensures {u = tt}) ∙ coef_read value v c.requires.station c.index-as_slice-column.result (rw c.as_slice-3.ensures at c.index-as_slice-column.is))
     (values_entered value v c.requires.station c.args.from vertex c.in_ok-inside.inside inside.size inside.each)
     (values_there value v c.requires.station c.args.from c.args.next c.requires.beyond.0 weight weight c.turned-weight.ensures vertex c.in_ok-outside.outside outside.size outside.each)

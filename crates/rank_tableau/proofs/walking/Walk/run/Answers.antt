@@ -3,7 +3,7 @@ use Rattle.std.proofs.Common.{◌+◌, ◌≤◌, length, sym, ap, subst, ◌∙
 use Rattle.std.proofs.lemmas.List.{length_push}
 use Rattle.rank_tableau.specs.declared.walking.Walk.{Walk}
 use Rattle.rank_tableau.specs.Founds.{bound_by}
-use Rattle.rank_tableau.specs.Walks.{IsAdvanced, IsEnded}
+use Rattle.rank_tableau.specs.Walks.{exchange_of, IsAdvanced, IsEnded}
 use Rattle.rank_tableau.proofs.Along.{along_goes_on, along_ended}
 use Rattle.rank_tableau.proofs.walking.Walk.run.Goals as goal
 
@@ -17,7 +17,7 @@ loop-preserved g c =
     let made : IsAdvanced value c.args.course.now c.args.reach.now c.loop.self c.advance.new.self = rw (c.in-Ok-None.field-0-is) at (c.in-Ok-None.ensures {u = tt}) in
     record {
       along = along_goes_on value k.problem c.args.course.now (bound_by k c.args.course.now.column c.args.reach.now) k.rows c.args.reach.now c.loop.self c.advance.new.self c.requires.costs c.loop.invariant.along made;
-      counted = ap length made.steps ∙ length_push c.loop.self.steps made.step ∙ ap (λ n. n + 1) c.loop.invariant.counted;
+      counted = ap length made.steps ∙ length_push c.loop.self.steps (exchange_of value made.step) ∙ ap (λ n. n + 1) c.loop.invariant.counted;
     }
 
 pub returns-in-Ok-Some : goal.returns-in-Ok-Some

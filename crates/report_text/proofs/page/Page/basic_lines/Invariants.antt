@@ -4,4 +4,4 @@ use Rattle.report_text.specs.ReportText.{basic_line}
 use Rattle.report_text.proofs.page.Page.basic_lines.Given as goal
 
 abbrev pub invariant-loop-pair : goal.invariant-loop-pair
-invariant-loop-pair g l = l.self ≡ l.initial.self ++ flat_map (basic_line g.F.Exact.value) (take l.pair-index l.pairs)
+invariant-loop-pair l = l.self ≡ l.initial.self ++ flat_map basic_line (take l.pair-index l.pairs)

@@ -3,4 +3,4 @@ use Rattle.report_text.specs.ReportText.{coef_line, numbered}
 use Rattle.report_text.proofs.page.Page.coef_lines.Given as goal
 
 abbrev pub invariant-loop-index : goal.invariant-loop-index
-invariant-loop-index g l = l.self ≡ l.initial.self ++ numbered (coef_line g.F.Exact.value) 1 (take l.index l.coef)
+invariant-loop-index l = l.self ≡ l.initial.self ++ numbered coef_line 1 (take l.index l.coef)

@@ -5,4 +5,4 @@ use Rattle.report_text.proofs.page.Page.interval_line.Goals as goal
 
 pub returns : goal.returns
 unfolding interval_line
-returns g c = append_spaced _ _ _ _ _ (codes "interval ") _ _ _ _ c.put.ensures c.put_count.ensures c.put_next.ensures c.put_ends.ensures
+returns c = append_spaced _ _ _ _ _ (codes "interval ") _ _ _ _ c.put.ensures c.put_count.ensures c.put_next.ensures c.put_ends.ensures

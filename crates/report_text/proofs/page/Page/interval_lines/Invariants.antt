@@ -4,4 +4,4 @@ use Rattle.report_text.specs.ReportText.{interval_line}
 use Rattle.report_text.proofs.page.Page.interval_lines.Given as goal
 
 abbrev pub invariant-loop-interval : goal.invariant-loop-interval
-invariant-loop-interval g l = l.self ≡ l.initial.self ++ flat_map (interval_line g.F.Exact.value) (take l.interval-index l.intervals)
+invariant-loop-interval l = l.self ≡ l.initial.self ++ flat_map interval_line (take l.interval-index l.intervals)

@@ -36,9 +36,10 @@ returns g c =
     let ll : j < length sol.linear = omega (arith, lj, stands.solution.linears) in
     let ec : number_of c.of-constant.result ≡ get_or sol.constant j (pos 0) = search rules in
     let el : number_of c.of-linear.result ≡ get_or sol.linear j (pos 0) = search rules in
-    let made : rational (value c.in_ok-value.value) ≡ (share (get_or sol.constant j (pos 0)) d +ℚ (share (get_or sol.linear j (pos 0)) d *ℚ rational (value r.theta))) *ℚ inverse (rational (value r.factor)) =
-    rw (ec, el) at (c.in_ok-value.ensures {u = tt}) in
-    dual_by value k stands.kept sol stands.solution theta r (c.in_ok-reading.ensures {u = tt}) j lj (rational (value c.in_ok-value.value))
+    let made : rational (value c.in_ok-number.number) ≡ (share (get_or sol.constant j (pos 0)) d +ℚ (share (get_or sol.linear j (pos 0)) d *ℚ rational (value r.theta))) *ℚ inverse (rational (value r.factor)) =
+    rw (ec, el) at (c.in_ok-number.ensures {u = tt}) in
+    ap rational (c.in_ok-value.ensures {u = tt})
+    ∙ dual_by value k stands.kept sol stands.solution theta r (c.in_ok-reading.ensures {u = tt}) j lj (rational (value c.in_ok-number.number))
     (made ∙ ap₂ (λ x y. (x +ℚ (y *ℚ rational (value r.theta))) *ℚ inverse (rational (value r.factor))) (share_read d sol.constant j lc) (share_read d sol.linear j ll))
     ∙ sym (dual_at (sample value k.problem) (slice_index k.rows) (place value k).inverse is_place.is_basis theta j lj)
     ∙ ap (dual (sample value k.problem) (slice_index k.rows) (place value k).inverse theta) here.holds

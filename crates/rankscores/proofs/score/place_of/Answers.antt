@@ -1,5 +1,0 @@
-use Rattle.rankscores.proofs.Areas.{search_finds}
-use Rattle.rankscores.proofs.score.place_of.Goals as goal
-
-pub unwrap-requires : goal.unwrap-requires
-unwrap-requires c = search_finds c.args.rows.now c.args.row c.binary_search.result c.requires.ascending c.requires.there c.binary_search.ensures.position
