@@ -89,9 +89,10 @@ module _ {F : Type 0} (value : F → Fraction) (h : Place F) where
   pub duals_by_row : (is_place : IsPlace value h) (theta : ℚ) (duals : List F) → AreDuals value h value theta duals → (sorted : List ℕ) (basic : List F) (made : List Fraction)
       → made ≡ map value basic → length basic ≡ length sorted → ((k : ℕ) → k < length sorted → HasValueAt value h.rows duals sorted basic k)
       → (length made ≡ length sorted) × ((k : ℕ) → k < length sorted → number_at made k ≡ dual (sample_of value h) (at_of h) h.inverse theta (slice_index sorted k))
-  duals_by_row is_place theta duals are sorted basic made is size each =
-      (ap length is ∙ length-map basic value ∙ size,
-      λ k lk. ap (λ l. number_at l k) is ∙ same_numbers value basic k ∙ dual_by_row value h is_place value theta duals are sorted basic k (each k lk))
+  duals_by_row is_place theta duals are sorted basic made is size each = (
+    ap length is ∙ length-map basic value ∙ size,
+    λ k lk. ap (λ l. number_at l k) is ∙ same_numbers value basic k ∙ dual_by_row value h is_place value theta duals are sorted basic k (each k lk),
+  )
 
   module _ (sorted : List ℕ) (is_place : IsPlace value h) (size : length sorted ≡ length h.rows) where
     -- dual values as sorted are those of the vertex
