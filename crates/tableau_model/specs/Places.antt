@@ -1,4 +1,4 @@
--- Inner. A basis of a problem, with its inverse, as one of two bodies keeps it.
+-- Inner. A basis of a problem, with its inverse, as one of three bodies keeps it.
 use Rattle.std.specs.Prelude.{◌≡◌, ℕ, List, length, slice_index}
 use Rattle.rational_laws.specs.Fraction.{Fraction}
 use Rattle.rational_laws.specs.Rational.{ℚ}
@@ -8,10 +8,11 @@ use Rattle.loss_model.specs.Sample.{Sample}
 use Rattle.walk_model.specs.Basis.{IsBasis}
 use Rattle.walk_model.specs.Trails.{EndsAt}
 
--- which body keeps it
+-- which body keeps it: fractions, whole numbers of 64 bits, or those of any size
 pub data Body : Type 0 where
   in_fractions : Body
   in_wholes : Body
+  in_long : Body
 
 -- a problem, and the body that works on it
 pub record Task (F : Type 0) : Type 0 where

@@ -8,8 +8,8 @@ use Rattle.tableau_model.specs.declared.refusal.Failure.TheVariants.{OutOfMemory
 use Rattle.tableau_model.specs.Places.{Place, in_fractions, in_wholes}
 use Rattle.tableau_model.specs.Questions.{Question, IsSpillAt}
 
--- fractions refuse where an operation for the question overflows, and whole numbers where they say that they
--- are too wide
+-- fractions refuse where an operation for the question overflows, whole numbers of 64 bits where they say that they
+-- are too wide, and those of any size never
 abbrev pub IsRefusalAt : {F : Type 0} → (F → Fraction) → ℕ → Place F → Question → Refusal F → Type 0
 IsRefusalAt value range h asked (Overflow s) = (h.task.body ≡ in_fractions) × IsSpillAt value range h asked s
 IsRefusalAt value range h asked TooWide = h.task.body ≡ in_wholes

@@ -17,9 +17,9 @@ module _ {F : Type 0} (value : F → Fraction) where
   IsOptimalFrom h t = IsOptimalIn (over_quantiles (sample_of value h)) (at_of h) h.inverse t
 
   -- the walking step from `from` on and below hi
-  abbrev pub IsStepTo : Place F → ℚ → ℚ → WalkingStep F → Type 0
+  abbrev pub IsStepTo : Place F → ℚ → ℚ → WalkingStep → Type 0
   IsStepTo h from hi x =
-      IsWalkingStep (over_quantiles (sample_of value h)) (at_of h) h.inverse (is_below hi) from (rational (value x.theta)) x.position x.row
+      IsWalkingStep (over_quantiles (sample_of value h)) (at_of h) h.inverse (is_below hi) from (rational x.theta) x.position x.row
 
   -- no walking step is left
   abbrev pub IsStill : Place F → ℚ → ℚ → Type 0
@@ -27,7 +27,7 @@ module _ {F : Type 0} (value : F → Fraction) where
       (t : ℚ) (j r : ℕ) → ¬ IsWalkingStep (over_quantiles (sample_of value h)) (at_of h) h.inverse (is_below hi) from t j r
 
   -- none is left, or this one
-  abbrev pub IsWalkingAnswer : Place F → ℚ → ℚ → Option (WalkingStep F) → Type 0
+  abbrev pub IsWalkingAnswer : Place F → ℚ → ℚ → Option WalkingStep → Type 0
   IsWalkingAnswer h from hi None = IsStill h from hi
   IsWalkingAnswer h from hi (Some x) = IsStepTo h from hi x
 

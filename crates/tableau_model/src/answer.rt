@@ -19,9 +19,9 @@ pub struct Fitted {
 }
 
 /// A walking step: at the quantile theta a row takes a position of the basis.
-#[derive(Clone, Copy)]
-pub struct WalkingStep<F> {
-    pub theta: F,
+#[derive(Drop)]
+pub struct WalkingStep {
+    pub theta: Ratio,
     pub position: u32,
     pub row: u32,
 }

@@ -1,8 +1,8 @@
 //! Why a question has no answer.
 use loss_model::Spill;
 
-/// What a body can't go on with: fractions with an operation that overflows, whole numbers with one that is
-/// too wide for them.
+/// What a body can't go on with: fractions with an operation that overflows, whole numbers of 64 bits with one that
+/// is too wide for them. Those of any size have none.
 #[derive(Drop)]
 pub enum Refusal<F> {
     Overflow(Spill<F>),
