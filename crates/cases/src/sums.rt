@@ -5,25 +5,23 @@ ghost use Rattle.cert_sums.specs.Tables.{IsTable};
 use crate::certificates::{changed, read};
 use crate::told::Told;
 use cert_sums::{
-    WholeProblem, beyond_bound, duals_balance, duals_meet, lies_inside, losses_hold, projects,
-    run_holds, whole_table,
+    WholeProblem, beyond_bound, is_held, lies_inside, meets, projects, run_holds, whole_table,
 };
 use cert_text::Cert;
 use frac_core::Frac128;
 use loss_model::{Beyond, End, IntervalProof};
 use std::alloc::Global;
 
-// What is shown: that the dual values balance, that the losses hold, and that the next segment has the same dual values; and that all
-// of it holds of the run of all segments.
+// What is shown: that the dual values balance and come to the losses, and that the next segment has the same dual values; and that
+// all of it holds of the run of all segments.
 #[derive(Clone, Copy)]
 struct Shown {
-    balance: bool,
-    losses: bool,
+    held: bool,
     joint: bool,
     run: bool,
 }
 
-// Of a segment and the next one; a loss is looked at where the dual values balance.
+// Of a segment and the next one.
 fn shown_by(alloc: Global, cert: &Cert) -> Option<Shown> {
     let table = whole_table(alloc, &cert.problem)?;
     let whole = WholeProblem {
@@ -32,21 +30,10 @@ fn shown_by(alloc: Global, cert: &Cert) -> Option<Shown> {
     };
     let list = cert.segments.as_slice();
     let segment = list.first()?;
-    let joint = duals_meet(alloc, whole, segment, list.get(1)?);
-    let run = run_holds(alloc, whole, list, 0, list.len());
-    if !duals_balance(alloc, whole, segment) {
-        return Some(Shown {
-            balance: false,
-            losses: false,
-            joint,
-            run,
-        });
-    }
     Some(Shown {
-        balance: true,
-        losses: losses_hold(alloc, whole, segment),
-        joint,
-        run,
+        held: is_held(alloc, whole, segment),
+        joint: meets(alloc, whole, segment, list.get(1)?),
+        run: run_holds(alloc, whole, list, 0, list.len()),
     })
 }
 
@@ -60,13 +47,11 @@ fn shown_of(alloc: Global, shared: &str, asked: &str) -> Option<Shown> {
 }
 
 fn tell_shown(told: &mut Told, shown: Shown) {
-    told.put(match (shown.balance, shown.losses, shown.joint) {
-        (true, true, true) => "balance losses next",
-        (true, true, false) => "balance losses",
-        (true, false, true) => "balance next",
-        (true, false, false) => "balance",
-        (false, _, true) => "next",
-        (false, _, false) => "nothing",
+    told.put(match (shown.held, shown.joint) {
+        (true, true) => "held next",
+        (true, false) => "held",
+        (false, true) => "next",
+        (false, false) => "nothing",
     });
     if shown.run {
         told.put(", and the run");

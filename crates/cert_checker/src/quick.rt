@@ -24,10 +24,7 @@ use crate::segments::{
 };
 use crate::tests::{Tests, TestsOf, Then, decide_each};
 use crate::verdict::Halt;
-use cert_sums::{
-    Table, WholeProblem, bounds_hold, costs_stand, duals_balance, duals_meet, losses_hold,
-    run_holds,
-};
+use cert_sums::{Table, WholeProblem, bounds_hold, costs_stand, is_held, meets, run_holds};
 use frac_core::{Frac128, List};
 use loss_model::{Problem, Segment, Vertex};
 use ratio::Ratio;
@@ -79,32 +76,14 @@ impl Quick<'_> {
         }
     }
 
-    /// Condition 6.
-    pub(crate) fn duals_balance(self, segment: &Segment) -> bool
+    /// Conditions 6 and 7 of a segment.
+    fn is_held(self, segment: &Segment) -> bool
         requires { IsTabled self }
-        ensures { IsTrue result → (j : ℕ) → AreTrue (balances_of (sample value128 self.entry.problem.now) j segment.now) }
+        ensures balances { IsTrue result → (j : ℕ) → AreTrue (balances_of (sample value128 self.entry.problem.now) j segment.now) }
+        ensures losses { IsTrue result → (j : ℕ) → AreTrue (losses_of (sample value128 self.entry.problem.now) j segment.now) }
     {
         match self.table {
-            Some(table) => duals_balance(
-                self.alloc,
-                WholeProblem {
-                    problem: self.problem,
-                    table,
-                },
-                segment,
-            ),
-            None => false,
-        }
-    }
-
-    /// Condition 7, where condition 6 is true.
-    pub(crate) fn losses_hold(self, index: u32, segment: &Segment) -> bool
-        requires table { IsTabled self }
-        requires balanced { AreTrue (balances_of (sample value128 self.problem.now) index segment.now) }
-        ensures { IsTrue result → AreTrue (losses_of (sample value128 self.entry.problem.now) index segment.now) }
-    {
-        match self.table {
-            Some(table) => losses_hold(
+            Some(table) => is_held(
                 self.alloc,
                 WholeProblem {
                     problem: self.problem,
@@ -117,12 +96,12 @@ impl Quick<'_> {
     }
 
     /// Condition 8, of a segment and the next one.
-    pub(crate) fn duals_meet(self, segment: &Segment, next: &Segment) -> bool
+    fn meets(self, segment: &Segment, next: &Segment) -> bool
         requires { IsTabled self }
         ensures { IsTrue result → (j : ℕ) → AreTrue (joint_tests (sample value128 self.entry.problem.now) j segment.now next.now) }
     {
         match self.table {
-            Some(table) => duals_meet(
+            Some(table) => meets(
                 self.alloc,
                 WholeProblem {
                     problem: self.problem,
@@ -269,7 +248,7 @@ impl SegmentTests for Balances<'_> {
     ghost segment_given = { λ x j s. IsSmall x.quick.problem.now × IsTabled x.quick };
 
     fn decide_segment(self, alloc: Global, index: u32, segment: &Segment) -> Result<(), Halt> {
-        if self.quick.duals_balance(segment) {
+        if self.quick.is_held(segment) {
             return Ok(());
         }
         let problem = self.quick.problem;
@@ -308,7 +287,7 @@ impl SegmentTests for Balances<'_> {
     }
 }
 
-/// Condition 7, where condition 6 is true.
+/// Condition 7.
 #[derive(Clone, Copy)]
 pub(crate) struct Losses<'a> {
     pub(crate) quick: Quick<'a>,
@@ -317,10 +296,10 @@ pub(crate) struct Losses<'a> {
 impl SegmentTests for Losses<'_> {
     ghost segment_tests = { λ x j s. losses_of (sample value128 x.quick.problem.now) j s };
 
-    ghost segment_given = { λ x j s. IsSmall x.quick.problem.now × IsTabled x.quick × AreTrue (balances_of (sample value128 x.quick.problem.now) j s) };
+    ghost segment_given = { λ x j s. (length x.quick.problem.now.rows ≤ 16384) × IsTabled x.quick };
 
     fn decide_segment(self, alloc: Global, index: u32, segment: &Segment) -> Result<(), Halt> {
-        if self.quick.losses_hold(index, segment) {
+        if self.quick.is_held(segment) {
             return Ok(());
         }
         let low = LossAt {
@@ -362,7 +341,7 @@ fn decide_joint(quick: Quick<'_>, index: u32, segment: &Segment, next: &Segment)
     requires table { IsTabled quick }
     ensures { Settles (joint_tests (sample value128 quick.entry.problem.now) index segment.now next.now) result }
 {
-    if quick.duals_meet(segment, next) {
+    if quick.meets(segment, next) {
         return Ok(());
     }
     let problem = quick.problem;

@@ -15,14 +15,13 @@
 //! let table = whole_table(alloc, &cert.problem);
 //!
 //! match self.table {
-//!     Some(table) => duals_balance(self.alloc, WholeProblem { problem: self.problem, table }, segment),
+//!     Some(table) => is_held(self.alloc, WholeProblem { problem: self.problem, table }, segment),
 //!     None => false,
 //! }
 //! ```
 #![tactic(auto)]
 
 mod duals;
-mod ends;
 mod fractions;
 mod long;
 mod long_rows;
@@ -41,10 +40,9 @@ mod totals;
 mod vertices;
 mod within;
 
-pub use ends::{WholeProblem, duals_balance, duals_meet, losses_hold};
 pub use projection::projects;
 pub use ranks::{beyond_bound, lies_inside};
-pub use run::run_holds;
-pub use table::{Line, Table, WholeRow, whole_table};
+pub use run::{is_held, meets, run_holds};
+pub use table::{Line, Table, WholeProblem, WholeRow, whole_table};
 pub use vertices::{basis_place, side};
 pub use within::{bounds_hold, costs_stand};

@@ -16,10 +16,9 @@ ghost use Rattle.cert_sums.specs.Slopes.{IsScaled};
 ghost use Rattle.cert_sums.specs.Within.{IsBetween, IsWithinCosts};
 
 use crate::duals::End;
-use crate::ends::WholeProblem;
 use crate::long::{long_grown, long_line, long_scale, long_scaled, short_product};
 use crate::long_sums::{LongReach, long_basic, long_reach};
-use crate::table::{Table, WholeRow};
+use crate::table::{Table, WholeProblem, WholeRow};
 use crate::vertices::side;
 use frac_core::{Frac128, List};
 use loss_model::{Problem, Side, Vertex};

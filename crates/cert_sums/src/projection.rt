@@ -16,11 +16,10 @@ ghost use Rattle.cert_sums.specs.Duals.{IsDuals};
 ghost use Rattle.cert_sums.specs.Ranks.{left_at, IsPositive};
 
 use crate::duals::Duals;
-use crate::ends::WholeProblem;
 use crate::fractions::minus;
 use crate::products::has_room;
 use crate::scale::{common_scale, narrow, scaled};
-use crate::table::Table;
+use crate::table::{Table, WholeProblem};
 use crate::totals::{balances_but, column_number};
 use crate::vertices::item_at;
 use frac_core::{Exact, Frac128, List};

@@ -14,11 +14,11 @@ ghost use Rattle.cert_sums.specs.Duals.{side_in, dual_of};
 ghost use Rattle.cert_sums.specs.Ranks.{IsHeldWithout, IsStanding, IsInsideBound, IsBeyondBound};
 
 use crate::duals::{End, duals_of};
-use crate::ends::WholeProblem;
 use crate::fractions::{against_product, minus, times};
 use crate::projection::length_of;
 use crate::residuals::follow_sides;
 use crate::scale::narrow;
+use crate::table::WholeProblem;
 use crate::totals::{balances_but, column_number};
 use crate::within::bounds_hold;
 use frac_core::{Exact, Frac128, List};

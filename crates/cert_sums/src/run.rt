@@ -5,17 +5,17 @@ ghost use Rattle.rational_laws.specs.Fraction.{rational};
 ghost use Rattle.loss_model.specs.declared.process.Segment.{Segment as Piece};
 ghost use Rattle.frac_core.specs.Values.{value as value128};
 ghost use Rattle.cert_sums.specs.Tables.{IsTable};
-ghost use Rattle.cert_sums.specs.Ends.{low_dual, high_dual, DoMeet, IsBegun, IsEnded, IsHeldAt};
+ghost use Rattle.cert_sums.specs.Ends.{low_dual, high_dual, DoMeet, IsBegun, IsEnded, IsHeld, IsHeldAt};
 ghost use Rattle.cert_sums.specs.Slopes.{end_dual, IsTally, IsCounted, IsSummed};
 
 use crate::duals::End;
-use crate::ends::WholeProblem;
 use crate::long_sums::{long_meet, long_summed};
 use crate::reach::reach_of;
 use crate::residuals::follow_sides;
 use crate::scale::is_same;
 use crate::segment_sums::{is_summed, narrow_meet};
 use crate::slopes::{Tally, tally_of, turned, unsettled_rows};
+use crate::table::WholeProblem;
 use loss_model::Segment;
 use ratio::Ratio;
 use std::alloc::Global;
@@ -127,6 +127,22 @@ fn meet_in(
     long_meet(alloc, whole.problem, whole.table, list, left, right)
 }
 
+/// Whether each row has the same dual value at the high end of a segment and at the low end of the next one.
+pub fn meets(alloc: Global, whole: WholeProblem<'_>, segment: &Segment, next: &Segment) -> bool
+    requires { IsTable whole.problem.now whole.table.now }
+    ensures { IsTrue result → DoMeet whole.entry.problem.now segment.now next.now }
+{
+    if !is_same(&segment.hi, &next.lo) {
+        return false;
+    }
+    let old = segment.vertex.sides.as_slice();
+    let new = next.vertex.sides.as_slice();
+    match unsettled_rows(alloc, old, new, whole.table.rows.as_slice().len()) {
+        Some(unsettled) => meet_in(alloc, whole, unsettled.as_slice(), segment, next),
+        None => false,
+    }
+}
+
 // The tally of the next segment, where it begins with the dual values and the loss with which a segment ends.
 fn goes_on(
     alloc: Global,
@@ -234,6 +250,21 @@ fn counted(alloc: Global, whole: WholeProblem<'_>, segment: &Segment) -> Option<
         return None;
     }
     Some(tally)
+}
+
+/// Whether all that is tested of the ends of a segment holds: that the residuals lie on the sides of their rows, and at both ends
+/// the dual values are orthogonal to each column and come to the loss that is stated.
+pub fn is_held(alloc: Global, whole: WholeProblem<'_>, segment: &Segment) -> bool
+    requires { IsTable whole.problem.now whole.table.now }
+    ensures { IsTrue result → IsHeld whole.entry.problem.now segment.now }
+{
+    if !follow_sides(alloc, whole.problem, whole.table, &segment.vertex) {
+        return false;
+    }
+    match counted(alloc, whole, segment) {
+        Some(tally) => ends(alloc, whole, segment, &tally),
+        None => false,
+    }
 }
 
 /// Whether all that is tested of the ends of a segment holds of each segment from one on up to another, or to the last, and

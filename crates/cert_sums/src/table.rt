@@ -44,6 +44,13 @@ pub struct Table {
     pub cost_limit: u64,
 }
 
+/// A problem, and the same in whole numbers.
+#[derive(Clone, Copy)]
+pub struct WholeProblem<'a> {
+    pub problem: &'a Problem<Frac128>,
+    pub table: &'a Table,
+}
+
 // A fraction times a number, where it is whole and not beyond a limit.
 fn number(v: Frac128, scale: u128, limit: u64) -> Option<i64>
     ensures value { IfSome result (λ r. whole r ≡ whole (pos scale) *ℚ rational (value128 v)) }

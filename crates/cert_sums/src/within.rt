@@ -12,10 +12,9 @@ ghost use Rattle.cert_sums.specs.Slopes.{IsReach};
 ghost use Rattle.cert_sums.specs.Within.{HasCosts, IsBetween, IsWithinCosts};
 
 use crate::duals::{End, basic_dual, has_reach, line_at};
-use crate::ends::WholeProblem;
 use crate::long_rows::long_bounds_hold;
 use crate::reach::{Reach, reach_of};
-use crate::table::{Table, WholeRow};
+use crate::table::{Table, WholeProblem, WholeRow};
 use crate::vertices::side;
 use frac_core::{Exact, Frac128, List};
 use loss_model::{Side, Vertex};

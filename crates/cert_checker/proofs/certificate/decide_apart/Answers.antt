@@ -1,8 +1,4 @@
 use Rattle.std.proofs.lemmas.Result.{err_from_is_err_and}
-use Rattle.frac_core.specs.Values.{value as value128}
-use Rattle.loss_model.specs.Problem.{sample}
-use Rattle.cert_checker.specs.Conditions.{balances}
-use Rattle.cert_checker.proofs.Extracts.{of_item}
 use Rattle.cert_checker.proofs.Shared.{at_balances, at_losses, at_joints}
 use Rattle.cert_checker.proofs.certificate.decide_apart.Goals as goal
 
@@ -18,8 +14,3 @@ returns-in_err-decide-2 g c =
 
 pub returns : goal.returns
 returns g c = at_joints c.args.quick.problem.now c.args.jobs.now.list.now c.in_ok-decide.ensures c.in_ok-decide-2.ensures c.decide-3.result c.decide-3.ensures
-
--- condition 7 is tested where condition 6 is true
-pub decide-requires-2-clause-given : goal.decide-requires-2-clause-given
-decide-requires-2-clause-given g c κs κt =
-    λ j s e. (c.requires.small, c.requires.table, of_item c.args.jobs.now.list.now (balances (sample value128 c.args.quick.problem.now)) c.in_ok-decide.ensures j s e)

@@ -1,5 +1,0 @@
-use Rattle.cert_checker.proofs.Wholes.{met_segment}
-use Rattle.cert_checker.proofs.quick.Quick.duals_meet.Goals as goal
-
-pub returns-in-Some : goal.returns-in-Some
-returns-in-Some c = λ h j. met_segment c.args.self.problem.now c.args.segment.now c.args.next.now (c.duals_meet.ensures h) j
