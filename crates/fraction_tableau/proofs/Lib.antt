@@ -8,7 +8,4 @@ pub mod Moving
 pub mod Ties
 pub mod Passed
 pub mod NextSteps
-pub mod Crossed
 pub mod LeastItem
-pub mod Stepping
-pub mod EndSpills

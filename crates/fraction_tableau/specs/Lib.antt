@@ -6,8 +6,4 @@ pub mod Lines
 pub mod Descents
 pub mod Slopes
 pub mod Next
-pub mod Views
-pub mod Meetings
 pub mod LeastRatio
-pub mod Ends
-pub mod WalkingSteps

@@ -1,14 +1,11 @@
 //! The row that enters at a breakpoint: of the rows that move, the first by perturbed ratio, found in
 //! one pass.
-ghost use Rattle.std.specs.Prelude.{◌≡◌, ℕ, ◌<◌, length, slice_index, true, IfOk, IfErr};
+ghost use Rattle.std.specs.Prelude.{◌≡◌, ℕ, ◌<◌, length, slice_index, IfOk, IfErr};
 ghost use Rattle.loss_model.specs.Problem.{sample};
 ghost use Rattle.loss_model.specs.Quantities.{IsShortOf};
 ghost use Rattle.basis_inverse.specs.Square.{inverse_entry};
 ghost use Rattle.basic_solution.specs.Solutions.{IsSolution};
-ghost use Rattle.pivot_model.specs.Steps.{moves};
-ghost use Rattle.walk_model.specs.Walks.{IsFirstMover};
 ghost use Rattle.fraction_tableau.specs.Kept.{IsKept};
-ghost use Rattle.fraction_tableau.specs.Views.{IsView, sample_at, rows_at, entries_at};
 ghost use Rattle.fraction_tableau.specs.Lines.{IsLine, IsOrderSpill, IsLineSpill, AreMovers, row_at, comes_before};
 ghost use Rattle.fraction_tableau.specs.LeastRatio.{IsEarlier, IsFirstOn, IsFirstMoverOrNone};
 
@@ -16,12 +13,10 @@ use crate::fractions::FractionTableau;
 use crate::line::{Line, Mover};
 use crate::movers::movers;
 use crate::order::precedes;
-use crate::view::BasisView;
 use basic_solution::BasicSolution;
 use frac_core::Exact;
 use loss_model::Short;
 use pivot_model::Direction;
-use tableau_model::Breakpoint;
 
 /// The one of two movers that comes first.
 fn earlier<F: Exact>(
@@ -97,28 +92,5 @@ impl<'a, F: Exact> FractionTableau<'a, F> {
         }
         let row = first_mover(&line, found.as_slice())?;
         Ok(Some(row))
-    }
-}
-
-impl<'a, F: Exact> BasisView<'a, F> {
-    /// The row that enters where a position leaves at a breakpoint, if some row moves.
-    pub(crate) fn entering_at(&self, next: Breakpoint<F>) -> Result<u32, Short<F>>
-        requires view { IsView F.value self.now }
-        requires position { next.position < self.now.tableau.now.problem.columns }
-        requires some { let p = sample_at F.value self.now in let at = rows_at F.value self.now in let a = entries_at F.value self.now in
-            (i : ℕ) × (i < p.rows) × (moves p at a next.position next.direction i ≡ true) }
-        ensures first { let p = sample_at F.value self.now in let at = rows_at F.value self.now in let a = entries_at F.value self.now in
-            IfOk result (IsFirstMover p at a next.position next.direction) }
-        ensures spill { let p = sample_at F.value self.now in let at = rows_at F.value self.now in let a = entries_at F.value self.now in
-            IfErr result (IsShortOf (IsOrderSpill F.value F.range p at a next.position next.direction)) }
-    {
-        match self
-            .tableau
-            .first_mover(self.solution, next.position, next.direction)
-        {
-            Ok(Some(row)) => Ok(row),
-            Ok(None) => unreachable!(),
-            Err(short) => Err(short),
-        }
     }
 }

@@ -16,8 +16,6 @@
 #![tactic(auto)]
 
 mod answers;
-mod crossings;
-mod ends;
 mod fractions;
 mod heap;
 mod least_ratio;
@@ -27,8 +25,6 @@ mod order;
 mod search;
 mod slopes;
 mod standing;
-mod view;
-mod walking;
 
 pub use fractions::FractionTableau;
 pub use standing::duals_at;

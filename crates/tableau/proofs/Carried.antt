@@ -28,7 +28,7 @@ use Rattle.walk_model.proofs.Slopes.{slope_is, dual_is, optimal_to, none_before,
 use Rattle.walk_model.proofs.Stays.{duals_stay, optimal_stays}
 use Rattle.walk_model.proofs.Trails.{list_exchanged, below_from}
 use Rattle.tableau_model.specs.Places.{Place, Task}
-use Rattle.whole_tableau.specs.Ends.{IsCarried}
+use Rattle.tableau_model.specs.WalkAnswers.{IsCarried}
 
 -- what follows for each value follows for that of an option
 pub some_weaker : {A : Type 0} (P Q : A → Type 0) → ((x : A) → P x → Q x) → (o : Option A) → IfSome o P → IfSome o Q

@@ -31,8 +31,7 @@ use Rattle.tableau_model.specs.declared.refusal.Failure.TheVariants.{OutOfMemory
 use Rattle.tableau_model.specs.Places.{Place, Task, at_of, sample_of}
 use Rattle.tableau_model.specs.Questions.{walking}
 use Rattle.tableau_model.specs.Refusals.{IsRefusedOf}
-use Rattle.tableau_model.specs.WalkAnswers.{IsOptimalFrom, IsStepTo, IsSegmentTo, IsSegmentHere}
-use Rattle.whole_tableau.specs.Ends.{IsCarried}
+use Rattle.tableau_model.specs.WalkAnswers.{IsCarried, IsOptimalFrom, IsStepTo, IsSegmentTo, IsSegmentHere}
 use Rattle.tableau.specs.declared.solving.Halt.{Halt}
 use Rattle.tableau.specs.declared.solving.Progress.{Progress}
 use Rattle.tableau.specs.declared.walking.Walk.{Walk}

@@ -19,8 +19,7 @@ use Rattle.tableau_model.specs.declared.refusal.Refusal.{Refusal}
 use Rattle.tableau_model.specs.Places.{Place, Task, IsPlace, sample_of}
 use Rattle.tableau_model.specs.Questions.{walking}
 use Rattle.tableau_model.specs.Refusals.{IsRefusalAt}
-use Rattle.tableau_model.specs.WalkAnswers.{IsStepTo, IsStill, IsSegmentHere}
-use Rattle.whole_tableau.specs.Ends.{IsCarried}
+use Rattle.tableau_model.specs.WalkAnswers.{IsCarried, IsStepTo, IsStill, IsSegmentHere}
 use Rattle.tableau.specs.declared.solving.Halt.{Halt}
 use Rattle.tableau.specs.declared.solving.Halt.TheVariants.{OutOfMemory, PivotLimit, Refused as Halted}
 use Rattle.tableau.specs.declared.walking.Walk.{Walk}

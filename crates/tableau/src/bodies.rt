@@ -10,8 +10,7 @@ ghost use Rattle.tableau_model.specs.Places.{IsPlace, at_of, in_wholes, sample_o
 ghost use Rattle.tableau_model.specs.Questions.{Question, solving, walking, IsStepOf};
 ghost use Rattle.tableau_model.specs.Refusals.{IsRefusalAt, IsRefusedOf};
 ghost use Rattle.tableau_model.specs.Answers.{IsOptimalAt, IsSolvingAnswer, IsFitted};
-ghost use Rattle.tableau_model.specs.WalkAnswers.{IsOptimalFrom, IsWalkingAnswer, IsSegmentTo, IsSegmentHere};
-ghost use Rattle.whole_tableau.specs.Ends.{IsCarried};
+ghost use Rattle.tableau_model.specs.WalkAnswers.{IsCarried, IsOptimalFrom, IsWalkingAnswer, IsSegmentTo, IsSegmentHere};
 ghost use Rattle.tableau.specs.Bodies.{place_of, IsTaken};
 
 use basis_inverse::Inverse;

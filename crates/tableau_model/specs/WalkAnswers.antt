@@ -1,8 +1,12 @@
 -- Inner. What the answers for a walk over quantiles say at a basis.
-use Rattle.std.specs.Prelude.{ℕ, Option, Some, None}
+use Rattle.std.specs.Prelude.{◌≡◌, ℕ, ◌<◌, length, slice_index, Option, Some, None}
 use Rattle.rational_laws.specs.Fraction.{Fraction, rational}
 use Rattle.rational_laws.specs.Rational.{ℚ}
 use Rattle.loss_model.specs.declared.process.Segment.{Segment}
+use Rattle.loss_model.specs.Problem.{number_at}
+use Rattle.loss_model.specs.Sample.{loss}
+use Rattle.basis_model.specs.Basis.{coefficient}
+use Rattle.pivot_model.specs.Duals.{dual}
 use Rattle.walk_model.specs.Families.{over_quantiles, IsOptimalIn}
 use Rattle.walk_model.specs.Walks.{IsWalkingStep}
 use Rattle.walk_model.specs.WalkTrails.{is_below}
@@ -38,3 +42,11 @@ module _ {F : Type 0} (value : F → Fraction) where
   -- its segment
   abbrev pub IsSegmentHere : Place F → ℚ → ℚ → Segment → Type 0
   IsSegmentHere h from to s = IsSegmentOf value h.task.problem (record { basis = h.rows; lo = from; hi = to }) s
+
+  -- at its upper end a segment has the dual values of its rows at theta, whether the basis holds them or not, and the loss there
+  pub record IsCarried (h : Place F) (theta : ℚ) (s : Segment) : Type 0 where
+    pub size : length s.basic_hi ≡ length s.vertex.basis.rows
+    pub rows : (k : ℕ) → k < length s.vertex.basis.rows → slice_index s.vertex.basis.rows k < length h.task.problem.rows
+    pub each : (k : ℕ) → k < length s.vertex.basis.rows
+        → number_at s.basic_hi k ≡ dual (sample_of value h) (at_of h) h.inverse theta (slice_index s.vertex.basis.rows k)
+    pub loss : rational s.loss_hi ≡ loss (sample_of value h) theta (coefficient (sample_of value h) (at_of h) h.inverse)
