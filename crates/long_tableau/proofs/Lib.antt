@@ -1,0 +1,5 @@
+pub mod Places
+pub mod Costs
+pub mod Scaled
+pub mod Stations
+pub mod Steps
