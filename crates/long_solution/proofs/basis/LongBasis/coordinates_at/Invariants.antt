@@ -1,0 +1,14 @@
+use Rattle.std.proofs.Common.{◌≡◌, ℕ, ◌<◌, length}
+use Rattle.basis_model.specs.Basis.{coord}
+use Rattle.whole_inverse.specs.Shares.{share_at}
+use Rattle.whole_inverse.specs.Squares.{inverse_of}
+use Rattle.whole_rows.specs.Wholes.{sample_of_rows}
+use Rattle.long_solution.proofs.basis.LongBasis.coordinates_at.Given as goal
+
+abbrev pub invariant-loop-row : goal.invariant-loop-row
+invariant-loop-row l =
+    let s = l.self.inverse.now in
+    record {
+      size : length l.made ≡ l.row;
+      each : (i : ℕ) → i < l.row → share_at s.determinant l.made i ≡ coord (sample_of_rows (length s.columns) l.self.rows.now) (inverse_of s) i l.position;
+    }

@@ -1,0 +1,20 @@
+-- A residual more.
+use Rattle.std.proofs.Common.{length}
+use Rattle.loss_model.specs.Sample.{residual}
+use Rattle.whole_inverse.specs.Shares.{share_at}
+use Rattle.whole_rows.specs.Wholes.{sample_of_rows}
+use Rattle.whole_inverse.proofs.Lists.{share_pushed, length_pushed}
+use Rattle.long_solution.proofs.basis.LongBasis.residuals.Goals as goal
+
+pub loop-row-preserved : goal.loop-row-preserved
+loop-row-preserved c =
+    let b = c.args.self.now in
+    let s = b.inverse.now in
+    let i = c.loop-row.row in
+    let made = c.loop-row.made in
+    let x = c.in_ok-number.number in
+    let grown = (c.in_ok-add.ensures {u = tt}).added in
+    record {
+      size = rw (grown) (length_pushed made x i c.loop-row.invariant.size);
+      each = rw (grown) (share_pushed s.determinant made x i (residual (sample_of_rows (length s.columns) b.rows.now) (share_at s.determinant c.args.coef.now)) c.loop-row.invariant.size c.loop-row.invariant.each c.in_ok-number.ensures);
+    }
