@@ -49,6 +49,6 @@ pub fn reach_in_wholes<'a, F: Exact>(
             let _held = tableau.held();
             Some(Reached { tableau, trail })
         }
-        Tableau::Fractions(_) => None,
+        Tableau::Fractions(_) | Tableau::Long(_) => None,
     }
 }

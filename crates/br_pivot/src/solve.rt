@@ -1,9 +1,9 @@
 //! Solves at one quantile.
-ghost use Rattle.std.specs.Prelude.{◌≡◌, ℕ, ◌≤◌, length, IfOk, IfErr, IfSome, IsSome};
+ghost use Rattle.std.specs.Prelude.{◌≡◌, ◌≢◌, ℕ, ◌≤◌, length, IfOk, IfErr, IfSome, IsSome};
 ghost use Rattle.rational_laws.specs.Fraction.{rational};
 ghost use Rattle.loss_model.specs.Problem.{sample, IsWellShaped};
 ghost use Rattle.pivot_model.specs.Duals.{HasCosts};
-ghost use Rattle.tableau_model.specs.Places.{in_fractions, sample_of};
+ghost use Rattle.tableau_model.specs.Places.{in_fractions, in_long, sample_of};
 ghost use Rattle.tableau.specs.Bodies.{place_of};
 ghost use Rattle.tableau.specs.Solving.{IsBegun, IsHalted, IsSolution as IsFound};
 ghost use Rattle.br_pivot.specs.Answers.{IsOptimum, IsAnswer};
@@ -37,6 +37,7 @@ fn with_inverse<'a, F: Exact>(
     limit: u32,
 ) -> Result<Solved<F>, Halt<F>>
     requires costs { HasCosts (sample_of F.value (place_of F.value solution.reached.tableau)) (rational (F.value theta)) }
+    requires body { (place_of F.value solution.reached.tableau).task.body ≢ in_long }
     requires solution { IsFound F.value (place_of F.value solution.reached.tableau).task (rational (F.value theta)) limit solution }
     ensures optimum { IfOk result (IsOptimum F.value (place_of F.value solution.entry.reached.tableau).task.problem (rational (F.value theta)) limit) }
     ensures halted { IfErr result (IsHalted F.value F.range (place_of F.value solution.entry.reached.tableau).task (rational (F.value theta)) limit) }
@@ -63,6 +64,7 @@ fn optimum_from<'a, F: Exact>(
     limit: u32,
 ) -> Result<Solved<F>, Halt<F>>
     requires costs { HasCosts (sample_of F.value (place_of F.value begun.tableau)) (rational (F.value theta)) }
+    requires body { (place_of F.value begun.tableau).task.body ≢ in_long }
     requires begun { IsBegun F.value (place_of F.value begun.tableau).task begun }
     ensures optimum { IfOk result (IsOptimum F.value (place_of F.value begun.entry.tableau).task.problem (rational (F.value theta)) limit) }
     ensures halted { IfErr result (IsHalted F.value F.range (place_of F.value begun.entry.tableau).task (rational (F.value theta)) limit) }
@@ -73,7 +75,7 @@ fn optimum_from<'a, F: Exact>(
     }
 }
 
-/// Solves from a start, in fractions or in whole numbers. Fractions always answer; there is no answer where whole
+/// Solves from a start, in fractions or in whole numbers of 64 bits. Fractions always answer; there is no answer where whole
 /// numbers are too wide.
 fn solve_from<'a, F: Exact>(
     begun: Progress<'a, F>,
@@ -81,6 +83,7 @@ fn solve_from<'a, F: Exact>(
     limit: u32,
 ) -> Option<Result<Solved<F>, Stop<F>>>
     requires costs { HasCosts (sample_of F.value (place_of F.value begun.tableau)) (rational (F.value theta)) }
+    requires body { (place_of F.value begun.tableau).task.body ≢ in_long }
     requires begun { IsBegun F.value (place_of F.value begun.tableau).task begun }
     ensures answer { IfSome result (IsAnswer F.value F.range (place_of F.value begun.entry.tableau).task.problem (rational (F.value theta)) limit) }
     ensures fractions { (place_of F.value begun.entry.tableau).task.body ≡ in_fractions → IsSome result }

@@ -13,6 +13,7 @@ use basis_inverse::{Inverse, Started, start};
 use frac_core::{Exact, Frac128};
 use fraction_tableau::FractionTableau;
 use loss_model::Problem;
+use ratio::Ratio;
 use test_kit::is_shaped;
 use whole_tableau::{WholeTableau, setting_of};
 
@@ -150,6 +151,9 @@ pub(crate) fn tell_standing<F: Exact>(told: &mut Told, problem: &Problem<F>) {
 fn tell_in_wholes(told: &mut Told, problem: &Problem<Frac128>, lo: Frac128, hi: Frac128)
     requires { IsWellShaped problem.now }
 {
+    let (Ok(from), Ok(to)) = (Ratio::widen(told.alloc(), lo), Ratio::widen(told.alloc(), hi)) else {
+        return told.put("no memory");
+    };
     let setting = match setting_of(told.alloc(), problem) {
         Ok(setting) => setting,
         Err(obstacle) => return told.put_debug(&obstacle),
@@ -158,7 +162,7 @@ fn tell_in_wholes(told: &mut Told, problem: &Problem<Frac128>, lo: Frac128, hi: 
         Ok(tableau) => tableau,
         Err(obstacle) => return told.put_debug(&obstacle),
     };
-    let answer = tableau.segment(None, lo, hi);
+    let answer = tableau.segment(None, &from, &to);
     drop(tableau);
     drop(setting);
     match &answer {

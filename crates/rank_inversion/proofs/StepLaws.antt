@@ -10,7 +10,7 @@ use Rattle.basis_inverse.specs.Square.{inverse_entry}
 use Rattle.basis_model.specs.Basis.{coord}
 use Rattle.pivot_model.proofs.Passing.{mover_some}
 use Rattle.walk_model.specs.Walks.{IsWalkingStep}
-use Rattle.tableau_model.specs.declared.answer.WalkingStep.{WalkingStep}
+use Rattle.rank_tableau.specs.declared.finding.TestedStep.{TestedStep}
 use Rattle.fraction_tableau.specs.Kept.{Kept}
 use Rattle.fraction_tableau.proofs.Refusals.{short_weaker}
 use Rattle.rank_walk_model.specs.RankWalks.{Way, rise, fall, tested}
@@ -26,7 +26,7 @@ step_facts : (way : Way) (p : Sample) (j : ℕ) (tau : ℚ) (at : ℕ → ℕ) (
 step_facts rise p j tau at a reach from t k r h = (h.break.position, h.entering.row, mover_some p at a k h.direction r h.entering.mover)
 step_facts fall p j tau at a reach from t k r h = (h.break.position, h.entering.row, mover_some p at a k h.direction r h.entering.mover)
 
-module _ {F : Type 0} (value : F → Fraction) (k : Kept F) (c : Course F) (from : F) (x : WalkingStep F) (step : IsStepAt value k c from x) where
+module _ {F : Type 0} (value : F → Fraction) (k : Kept F) (c : Course F) (from : F) (x : TestedStep F) (step : IsStepAt value k c from x) where
   facts : (x.position < k.problem.columns) × (x.row < length k.problem.rows) × (coord (sample value k.problem) (inverse_entry value k.square) x.row x.position ≢ whole (pos 0))
   facts =
       step_facts (way_of c.way) (sample value k.problem) c.column (tau_of value c) (slice_index k.rows) (inverse_entry value k.square) _ (parameter_at value c from) (parameter_at value c x.theta) x.position x.row step

@@ -21,7 +21,7 @@ use Rattle.pivot_model.proofs.Unique.{same_inverse}
 use Rattle.walk_model.specs.Families.{IsOptimalIn}
 use Rattle.walk_model.specs.Walks.{IsWalkingStep}
 use Rattle.walk_model.specs.WalkTrails.{value_after, HasStepAfter, is_within}
-use Rattle.tableau_model.specs.declared.answer.WalkingStep.{WalkingStep}
+use Rattle.rank_tableau.specs.declared.finding.TestedStep.{TestedStep}
 use Rattle.fraction_tableau.proofs.Inverses.{basis_of, ends_of}
 use Rattle.rank_walk_model.specs.Ends.{IsEndAt}
 use Rattle.rank_walk_model.specs.Intervals.{when_on}
@@ -61,7 +61,7 @@ module _ {F : Type 0} (value : F → Fraction) (p : Problem F) (c : Course F) (s
   along_column w h lj = subst (λ (q : Problem F). c.column < q.columns) (sym h.problem) lj
 
   -- a step at the basis is one over the problem
-  step_here : (w : Walk F) → IsAlong value p c solved w → (x : WalkingStep F) → IsStepAt value w.tableau c w.now x
+  step_here : (w : Walk F) → IsAlong value p c solved w → (x : TestedStep F) → IsStepAt value w.tableau c w.now x
       → IsWalkingStep (tested (way_of c.way) (sample value p) (tau_of value c) c.column) (slice_index w.tableau.rows) (inverse_entry value w.tableau.square) (is_within (bound_of value c))
       (parameter_at value c w.now) (when_on (way_of c.way) (value x.theta)) x.position x.row
   step_here w h x step =
@@ -74,7 +74,7 @@ module _ {F : Type 0} (value : F → Fraction) (p : Problem F) (c : Course F) (s
     abbrev W : List Exchange → ℚ → List ℕ → (ℕ → ℕ → ℚ) → Type 0
     W steps t rows inv = IsWalking value p (way_of c.way) c.column (tau_of value c) (bound_of value c) solved steps t rows inv
 
-    abbrev x : WalkingStep F
+    abbrev x : TestedStep F
     x = a.step
 
     abbrev made : ℕ → ℕ → ℚ
@@ -154,7 +154,7 @@ module _ {F : Type 0} (value : F → Fraction) (p : Problem F) (c : Course F) (s
               (when_on fall x.theta) x.position x.row) (sym k.reaches) step,
         )
 
-    pub along_limit : (x : WalkingStep F) → IsStepAt value w.tableau c w.now x → length w.steps ≡ limit → IsAtLimit value p c solved limit w.steps
+    pub along_limit : (x : TestedStep F) → IsStepAt value w.tableau c w.now x → length w.steps ≡ limit → IsAtLimit value p c solved limit w.steps
     along_limit x step count = record { walked = h.walking.walked; count = count; more = left_after (way_of c.way) (exchange_of value x) h.walking (step_here w h x step) }
 
     along_spilled : (range : ℕ) (s : _) → IsSpillAt value range w.tableau c w.now s → length w.steps ≤ limit → IsSpilled value p c solved range limit w.steps s

@@ -8,7 +8,7 @@ use Rattle.basis_inverse.specs.Square.{inverse_entry}
 use Rattle.walk_model.specs.Walks.{IsWalkingStep}
 use Rattle.walk_model.specs.WalkTrails.{is_within}
 use Rattle.fraction_tableau.specs.Kept.{Kept}
-use Rattle.tableau_model.specs.declared.answer.WalkingStep.{WalkingStep}
+use Rattle.rank_tableau.specs.declared.finding.TestedStep.{TestedStep}
 use Rattle.rank_walk_model.specs.Ends.{IsEndAt}
 use Rattle.rank_inversion.specs.declared.course.Course.{Course}
 use Rattle.rank_tableau.specs.declared.outcome.Next.{Next}
@@ -20,7 +20,7 @@ use Rattle.rank_inversion.specs.Stops.{IsRankSpill}
 
 module _ {F : Type 0} (value : F → Fraction) where
   -- the walking step at a basis, which the walk entered where the column weighed so much
-  abbrev pub IsStepAt : Kept F → Course F → F → WalkingStep F → Type 0
+  abbrev pub IsStepAt : Kept F → Course F → F → TestedStep F → Type 0
   IsStepAt k c from x =
       IsWalkingStep (family_of value (sample value k.problem) c) (slice_index k.rows) (inverse_entry value k.square) (is_within (bound_of value c))
       (parameter_at value c from) (parameter_at value c x.theta) x.position x.row

@@ -13,7 +13,7 @@ use Rattle.loss_model.specs.Quantities.{IsShortOf}
 use Rattle.basis_inverse.specs.Square.{inverse_entry}
 use Rattle.pivot_model.specs.Steps.{HasNoNegativeSlope}
 use Rattle.walk_model.specs.WalkTrails.{AreWalkingSteps, HasStepAfter, is_within}
-use Rattle.tableau_model.specs.declared.answer.WalkingStep.{WalkingStep}
+use Rattle.rank_tableau.specs.declared.finding.TestedStep.{TestedStep}
 use Rattle.fraction_tableau.specs.Kept.{IsKept}
 use Rattle.rank_walk_model.specs.Intervals.{when_on, IsWalked}
 use Rattle.rank_walk_model.specs.Loops.{IsWalking}
@@ -44,7 +44,7 @@ module _ {F : Type 0} (value : F → Fraction) where
 
   -- the walking step is made
   pub record IsAdvanced (c : Course F) (before after : Walk F) : Type 0 where
-    pub step : WalkingStep F
+    pub step : TestedStep F
     pub is_step : IsStepAt value before.tableau c before.now step
     pub kept : IsKept value after.tableau
     pub problem : after.tableau.problem ≡ before.tableau.problem

@@ -15,9 +15,9 @@ ghost use Rattle.rank_inversion.specs.Nexts.{IsFound, IsSpillHere, weighed_value
 use crate::station::Station;
 use frac_core::{Exact, List};
 use loss_model::{Quantity, Short, Site, Spill, over_at, plus_product, times_at, widened};
-use rank_tableau::Finding;
+use rank_tableau::{Finding, TestedStep};
 use ratio::Ratio;
-use tableau_model::{WalkingStep, by_row};
+use tableau_model::by_row;
 
 impl<'a, F: Exact> Station<'a, F> {
     /// What is left at the basis, which the walk entered where the column weighed so much.
@@ -40,7 +40,7 @@ impl<'a, F: Exact> Station<'a, F> {
             .tableau
             .first_mover(&self.solution, next.position, next.direction)
         {
-            Ok(Some(row)) => Ok(Finding::Step(WalkingStep {
+            Ok(Some(row)) => Ok(Finding::Step(TestedStep {
                 theta: weight,
                 position: next.position,
                 row,

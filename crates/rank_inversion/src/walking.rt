@@ -14,10 +14,10 @@ use crate::look::look;
 use frac_core::{Exact, List, OutOfMemory};
 use fraction_tableau::FractionTableau;
 use loss_model::{End, Exchange, Short, Spill};
-use rank_tableau::{Arrival, Next};
+use rank_tableau::{Arrival, Next, TestedStep};
 use ratio::Ratio;
 use std::alloc::Global;
-use tableau_model::{Step, WalkingStep};
+use tableau_model::Step;
 
 /// A walk in its midst: the basis at which it stands, the steps that led there, and what the column
 /// weighed where it entered the basis.
@@ -42,7 +42,7 @@ pub enum WalkHalt<F> {
 }
 
 /// A step as the trail has it.
-fn exchange<F: Exact>(alloc: Global, step: WalkingStep<F>) -> Result<Exchange, OutOfMemory>
+fn exchange<F: Exact>(alloc: Global, step: TestedStep<F>) -> Result<Exchange, OutOfMemory>
     ensures { IfOk result (λ x. x ≡ exchange_of F.value step) }
 {
     let theta = Ratio::widen(alloc, step.theta)?;
@@ -65,7 +65,7 @@ fn halted<F: Exact>(short: Short<F>, steps: List<Exchange>) -> WalkHalt<F>
 
 impl<'a, F: Exact> Walk<'a, F> {
     /// Makes the walking step. After a refusal the steps are as before.
-    fn make_step(&mut self, course: &Course<F>, step: WalkingStep<F>) -> Result<(), Short<F>>
+    fn make_step(&mut self, course: &Course<F>, step: TestedStep<F>) -> Result<(), Short<F>>
         requires step { IsStepAt F.value self.old.tableau course.now self.old.now step }
         ensures made { OnOk result (IsAdvanced F.value course.now self.old self.new) }
         ensures refused { IfErr result (IsKeptShort F.value F.range course.now self.old self.new) }

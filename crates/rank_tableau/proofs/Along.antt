@@ -24,7 +24,7 @@ use Rattle.rank_walk_model.specs.Loops.{IsWalking}
 use Rattle.rank_walk_model.specs.RankWalks.{Way, rise, fall, tested}
 use Rattle.rank_walk_model.specs.Crossings.{parameter_of}
 use Rattle.rank_walk_model.proofs.Loops as loop
-use Rattle.tableau_model.specs.declared.answer.WalkingStep.{WalkingStep}
+use Rattle.rank_tableau.specs.declared.finding.TestedStep.{TestedStep}
 use Rattle.whole_inverse.specs.Shares.{share}
 use Rattle.whole_tableau.specs.declared.setting.Setting.{Setting}
 use Rattle.whole_tableau.specs.Kept.{IsKept, place}
@@ -76,7 +76,7 @@ module _ {F : Type 0} (value : F → Fraction) (p : Problem F) (c : Course F) (b
   along_column w h lj = subst (λ (q : Problem F). c.column < q.columns) (sym h.problem) lj
 
   -- a step at the basis is one over the problem
-  step_here : (w : Walk F) → IsAlong value p c bound solved r w → (x : WalkingStep F) → IsStepAt value (here_of w) c r w.weight x
+  step_here : (w : Walk F) → IsAlong value p c bound solved r w → (x : TestedStep F) → IsStepAt value (here_of w) c r w.weight x
       → IsWalkingStep (tested (way_of c.way) (sample value p) (rational (value c.tau)) c.column) (slice_index (here_of w).rows) (place value (here_of w)).inverse (is_within bound)
       (parameter_at value c w.weight) (when_on (way_of c.way) (value x.theta)) x.position x.row
   step_here w h x step =
@@ -91,7 +91,7 @@ module _ {F : Type 0} (value : F → Fraction) (p : Problem F) (c : Course F) (b
     abbrev W : List Exchange → ℚ → List ℕ → (ℕ → ℕ → ℚ) → Type 0
     W steps t rows inv = IsWalking value p (way_of c.way) c.column (rational (value c.tau)) bound solved steps t rows inv
 
-    abbrev x : WalkingStep F
+    abbrev x : TestedStep F
     x = a.step
 
     abbrev taken : Exchange

@@ -14,7 +14,7 @@ use Rattle.walk_model.specs.Walks.{IsNextBreak, IsFirstMover, IsWalkingStep}
 use Rattle.rank_walk_model.specs.RankWalks.{Way, rise, fall, tested}
 use Rattle.walk_model.specs.WalkTrails.{is_within}
 use Rattle.rank_walk_model.specs.Crossings.{parameter_of, bound_towards, IsMoving}
-use Rattle.tableau_model.specs.declared.answer.WalkingStep.{WalkingStep}
+use Rattle.rank_tableau.specs.declared.finding.TestedStep.{TestedStep}
 use Rattle.tableau_model.specs.declared.breakpoint.Breakpoint.{Breakpoint}
 use Rattle.tableau_model.specs.Crossings.{IsFirst}
 use Rattle.whole_rows.specs.Scaled.{unscaled}
@@ -107,7 +107,7 @@ module _ {F : Type 0} (value : F → Fraction) (k : Kept F) (h : IsKept value k)
               ∙ carried value k h t is.rows is.at is.inverse (λ q at a e. moves q at a b.position b.direction i ≡ false)
               (none i (subst (λ n. i < n) (sym (ap (λ (xs : List (WholeRow ℤ)). length xs) is.rows ∙ h.setting.scaled.rows)) li))
 
-      pub step_here : (x : WalkingStep F) → x.position ≡ b.position → rational (value x.theta) ≡ parameter_of (way_of c.way) (rational (value theta)) → IsEnteringOrNone t b.position b.direction (Some x.row)
+      pub step_here : (x : TestedStep F) → x.position ≡ b.position → rational (value x.theta) ≡ parameter_of (way_of c.way) (rational (value theta)) → IsEnteringOrNone t b.position b.direction (Some x.row)
           → IsFound value (place value k) c (bound_by k c.column r) from (Step x)
       step_here x at_position at_theta entering =
           subst (λ j. IsWalkingStep (family_of value p c) at (unscaled s a) (is_within (bound_by k c.column r)) (parameter_at value c from) (parameter_at value c x.theta) j x.row) (sym at_position)

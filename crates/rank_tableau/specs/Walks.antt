@@ -11,7 +11,7 @@ use Rattle.walk_model.specs.WalkTrails.{AreWalkingSteps, is_within}
 use Rattle.rank_walk_model.specs.Intervals.{when_on, IsWalked}
 use Rattle.rank_walk_model.specs.Loops.{IsWalking}
 use Rattle.rank_walk_model.specs.RankWalks.{tested}
-use Rattle.tableau_model.specs.declared.answer.WalkingStep.{WalkingStep}
+use Rattle.rank_tableau.specs.declared.finding.TestedStep.{TestedStep}
 use Rattle.whole_tableau.specs.Kept.{Kept, IsKept, place}
 use Rattle.rank_steps.specs.Ways.{way_of}
 use Rattle.rank_tableau.specs.declared.course.Course.{Course}
@@ -27,18 +27,18 @@ here_of w = unwrap_or w.own w.start.now
 
 module _ {F : Type 0} (value : F → Fraction) where
   -- a step as a trail has it
-  abbrev pub exchange_of : WalkingStep F → Exchange
+  abbrev pub exchange_of : TestedStep F → Exchange
   exchange_of x = record { theta = value x.theta; position = x.position; row = x.row }
 
   -- the walking step at a basis, which the walk entered where the column weighed so much
-  abbrev pub IsStepAt : Kept F → Course F → Square → F → WalkingStep F → Type 0
+  abbrev pub IsStepAt : Kept F → Course F → Square → F → TestedStep F → Type 0
   IsStepAt k c r from x =
       IsWalkingStep (family_of value (sample value k.problem) c) (slice_index k.rows) (place value k).inverse (is_within (bound_by k c.column r))
       (parameter_at value c from) (parameter_at value c x.theta) x.position x.row
 
   -- the walking step is made
   pub record IsAdvanced (c : Course F) (r : Square) (before after : Walk F) : Type 0 where
-    pub step : WalkingStep F
+    pub step : TestedStep F
     pub is_step : IsStepAt (here_of before) c r before.weight step
     pub kept : IsKept value (here_of after)
     pub problem : (here_of after).problem ≡ (here_of before).problem

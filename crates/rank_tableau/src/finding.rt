@@ -13,17 +13,25 @@ use crate::reach::{Square, is_beyond};
 use crate::weight::{factor_of, weight_of};
 use frac_core::Exact;
 use rank_steps::{WholeCourse, entering_row, first_crossing};
-use tableau_model::{Breakpoint, WalkingStep};
+use tableau_model::Breakpoint;
 use whole_inverse::Obstacle;
 use whole_rows::Factor;
 use whole_steps::{Quantile, Quotient, Station};
 use whole_tableau::WholeTableau;
 
+/// A step of a walk of a tested value: where the column weighs theta, a row takes a position of the basis.
+#[derive(Clone, Copy)]
+pub struct TestedStep<F> {
+    pub theta: F,
+    pub position: u32,
+    pub row: u32,
+}
+
 /// What is found at a basis: the walking step; or the next breakpoint, where that is beyond the bound, or where no row moves
 /// there.
 #[derive(Clone, Copy)]
 pub enum Finding<F> {
-    Step(WalkingStep<F>),
+    Step(TestedStep<F>),
     Past(Breakpoint<F>),
     Stuck(Breakpoint<F>),
 }
@@ -61,7 +69,7 @@ fn at_crossing<F: Exact>(
         return Ok(Finding::Past(here));
     }
     match entering_row::<F>(station, tableau.alloc(), next.position, next.direction) {
-        Ok(Some(row)) => Ok(Finding::Step(WalkingStep {
+        Ok(Some(row)) => Ok(Finding::Step(TestedStep {
             theta: course.way.turned(theta),
             position: next.position,
             row,

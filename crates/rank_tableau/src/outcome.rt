@@ -11,14 +11,14 @@ ghost use Rattle.rank_tableau.specs.Ends.{IsEndOf, IsNext};
 
 use crate::course::Course;
 use crate::ends::basic_values;
-use crate::finding::{Finding, found};
+use crate::finding::{Finding, TestedStep, found};
 use crate::rays::ray_at;
 use crate::reach::Square;
 use crate::weight::factor_of;
 use frac_core::Exact;
 use loss_model::{Beyond, Bound, End, Vertex};
 use ratio::Ratio;
-use tableau_model::{Breakpoint, WalkingStep};
+use tableau_model::Breakpoint;
 use whole_inverse::Obstacle;
 use whole_rows::Factor;
 use whole_tableau::WholeTableau;
@@ -26,7 +26,7 @@ use whole_tableau::WholeTableau;
 /// What is left at a basis: the walking step, or the end of the walk.
 #[derive(Drop)]
 pub enum Next<F> {
-    Step(WalkingStep<F>),
+    Step(TestedStep<F>),
     End(End),
 }
 

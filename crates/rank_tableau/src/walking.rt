@@ -10,12 +10,13 @@ ghost use Rattle.rank_tableau.specs.Founds.{family_of, parameter_at, bound_by};
 ghost use Rattle.rank_tableau.specs.Walks.{here_of, IsAlong, IsStepAt, IsAdvanced, IsAdvancedOrEnded, IsEnded};
 
 use crate::course::Course;
+use crate::finding::TestedStep;
 use crate::outcome::{Next, left_at};
 use crate::reach::Square;
 use frac_core::{Exact, List};
 use loss_model::{End, Exchange};
 use ratio::Ratio;
-use tableau_model::{Step, WalkingStep};
+use tableau_model::Step;
 use whole_inverse::Obstacle;
 use whole_tableau::WholeTableau;
 
@@ -52,7 +53,7 @@ impl<'s, 'a, F: Exact> Walk<'s, 'a, F> {
         &mut self,
         course: &Course<F>,
         reach: &Square,
-        step: WalkingStep<F>,
+        step: TestedStep<F>,
     ) -> Result<(), Obstacle>
         requires step { IsStepAt F.value (here_of self.old) course.now reach.now self.old.weight step }
         ensures { OnOk result (IsAdvanced F.value course.now reach.now self.old self.new) }

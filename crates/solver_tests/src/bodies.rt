@@ -1,15 +1,17 @@
-//! Both bodies of the tableau on drawn problems: whole numbers refuse none of them whose columns are independent, and give
-//! the same walk as fractions.
+//! Both walking bodies of the tableau on drawn problems: whole numbers of 64 bits refuse none of them whose columns are
+//! independent, and give the same walk as those of any size.
 
+ghost use Rattle.std.specs.Prelude.{◌≢◌};
 ghost use Rattle.rational_laws.specs.Fraction.{rational};
 ghost use Rattle.rational_laws.specs.Rational.{◌≤ℚ◌};
 ghost use Rattle.pivot_model.specs.Duals.{HasCosts};
-ghost use Rattle.tableau_model.specs.Places.{sample_of};
+ghost use Rattle.tableau_model.specs.Places.{in_fractions, sample_of};
 ghost use Rattle.tableau.specs.Bodies.{place_of};
 ghost use Rattle.tableau.specs.Solving.{IsBegun};
 
 use crate::digest::digest_of;
 use frac_core::{Exact, Frac128};
+use long_tableau::long_setting;
 use loss_model::{Problem, Process};
 use std::alloc::Global;
 use std::process::Abort;
@@ -29,6 +31,7 @@ fn walked_from<'a, F: Exact>(
     requires costs_lo { HasCosts (sample_of F.value (place_of F.value begun.tableau)) (rational (F.value lo)) }
     requires costs_hi { HasCosts (sample_of F.value (place_of F.value begun.tableau)) (rational (F.value hi)) }
     requires begun { IsBegun F.value (place_of F.value begun.tableau).task begun }
+    requires body { (place_of F.value begun.tableau).task.body ≢ in_fractions }
 {
     let Ok(solved) = solve_over(begun, lo, 10000) else {
         panic!(rt; "the solve must not be refused");
@@ -38,7 +41,7 @@ fn walked_from<'a, F: Exact>(
         .expect(rt, "a process")
 }
 
-/// The walk of a problem in whole numbers.
+/// The walk of a problem in whole numbers of 64 bits.
 pub(crate) fn in_wholes<F: Exact>(
     rt: &impl Abort,
     alloc: Global,
@@ -60,8 +63,8 @@ pub(crate) fn in_wholes<F: Exact>(
     process
 }
 
-/// The walk of a problem in fractions.
-fn in_fractions<F: Exact>(
+/// The walk of a problem in whole numbers of any size.
+fn in_long<F: Exact>(
     rt: &impl Abort,
     alloc: Global,
     problem: &Problem<F>,
@@ -71,10 +74,15 @@ fn in_fractions<F: Exact>(
     assert!(rt; is_ordered(lo, hi));
     assert!(rt; has_costs(problem, lo));
     assert!(rt; has_costs(problem, hi));
-    let Ok(begun) = Progress::begin(alloc, problem) else {
+    let Ok(setting) = long_setting(alloc, problem) else {
+        panic!(rt; "memory");
+    };
+    let Ok(begun) = Progress::begin_in_long(alloc, problem, &setting) else {
         panic!(rt; "a start");
     };
-    walked_from(rt, alloc, begun, lo, hi)
+    let process = walked_from(rt, alloc, begun, lo, hi);
+    drop(setting);
+    process
 }
 
 /// The digest of a process and how many steps it has.
@@ -93,12 +101,12 @@ pub(crate) fn expect_same(
     let wholes = in_wholes(rt, alloc, problem, range);
     assert!(rt; figures(&wholes) == figures(process));
     drop(wholes);
-    let fractions = in_fractions(rt, alloc, problem, range);
-    assert!(rt; figures(&fractions) == figures(process));
-    drop(fractions);
+    let long = in_long(rt, alloc, problem, range);
+    assert!(rt; figures(&long) == figures(process));
+    drop(long);
 }
 
-/// Neither body has a start where the columns are dependent.
+/// No body has a start where the columns are dependent.
 pub(crate) fn expect_no_start(rt: &impl Abort, alloc: Global, problem: &Problem<Frac128>) {
     assert!(rt; is_shaped(problem));
     let Ok(setting) = setting_of(alloc, problem) else {
@@ -108,6 +116,13 @@ pub(crate) fn expect_no_start(rt: &impl Abort, alloc: Global, problem: &Problem<
     assert!(rt; in_wholes.is_err());
     drop(in_wholes);
     drop(setting);
+    let Ok(wide) = long_setting(alloc, problem) else {
+        panic!(rt; "memory");
+    };
+    let in_long = Progress::begin_in_long(alloc, problem, &wide);
+    assert!(rt; in_long.is_err());
+    drop(in_long);
+    drop(wide);
     let in_fractions = Progress::begin(alloc, problem);
     assert!(rt; in_fractions.is_err());
     drop(in_fractions);

@@ -48,7 +48,7 @@ fn is_told<F: Exact>(rt: &impl Abort, body: &WholeTableau<'_, F>) -> bool {
 fn is_told_at<F: Exact>(rt: &impl Abort, tableau: &Tableau<'_, F>) -> bool {
     match tableau {
         Tableau::Wholes(body) => is_told(rt, body),
-        Tableau::Fractions(_) => panic!(rt; "whole numbers were asked for"),
+        _ => panic!(rt; "whole numbers of 64 bits were asked for"),
     }
 }
 

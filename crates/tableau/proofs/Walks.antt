@@ -59,12 +59,12 @@ same_from_test x y h le = by (cmp_ℚ x y) refl h
     by Greater e h = absurd ((cmp_ℚ-Greater x y).0 e le)
 
 -- a walking step ends the stay at its basis
-pub step_ends : {F : Type 0} (value : F → Fraction) (h : Place F) (from hi : ℚ) (x : WalkingStep F) → IsStepTo value h from hi x → IsStayEnd (sample_of value h) (at_of h) h.inverse from hi (rational (value x.theta))
-step_ends value h from hi x step = inl (x.position, step.direction, step.break, below_from (rational (value x.theta)) hi step.within)
+pub step_ends : {F : Type 0} (value : F → Fraction) (h : Place F) (from hi : ℚ) (x : WalkingStep) → IsStepTo value h from hi x → IsStayEnd (sample_of value h) (at_of h) h.inverse from hi (rational x.theta)
+step_ends value h from hi x step = inl (x.position, step.direction, step.break, below_from (rational x.theta) hi step.within)
 
 -- an optimal basis is where a walk begins
 pub walk_begins : {F : Type 0} (value : F → Fraction) (task : Task F) (hi : ℚ) (limit : ℕ) (u : Progress F) (lo : F) → rational (value lo) ≤ℚ hi → IsSolved value task (rational (value lo)) limit u
-    → IsWalking value task (rational (value lo)) hi (record { reached = u; segments = []; now = lo })
+    → IsWalking value task (rational (value lo)) hi (record { reached = u; segments = []; now = value lo })
 walk_begins {F} value task hi limit u lo range h =
     record {
       is_place = h.underway.is_place;
@@ -111,11 +111,11 @@ module _ {F : Type 0} {value : F → Fraction} {task : Task F} {lo hi : ℚ} whe
   pub costs_here : (w : Walk F) → IsWalking value task lo hi w → HasCosts (sample value task.problem) hi → HasCosts (sample_of value (here_of value w)) hi
   costs_here w h k = at_here w h (λ p. HasCosts (sample value p) hi) k
 
-  pub optimal_now : (w : Walk F) → IsWalking value task lo hi w → IsOptimalFrom value (here_of value w) (now_of value w)
-  optimal_now w h = at_here w h (λ p. IsOptimalIn (over_quantiles (sample value p)) (at_of (here_of value w)) (here_of value w).inverse (now_of value w)) h.underway.optimal
+  pub optimal_now : (w : Walk F) → IsWalking value task lo hi w → IsOptimalFrom value (here_of value w) (now_of w)
+  optimal_now w h = at_here w h (λ p. IsOptimalIn (over_quantiles (sample value p)) (at_of (here_of value w)) (here_of value w).inverse (now_of w)) h.underway.optimal
 
   -- the trail of a walk is lawful
-  pub lawful_of : (w : Walk F) → IsWalking value task lo hi w → IsProcessTrail (sample value task.problem) lo hi w.reached.trail (here_of value w).rows (now_of value w)
+  pub lawful_of : (w : Walk F) → IsWalking value task lo hi w → IsProcessTrail (sample value task.problem) lo hi w.reached.trail (here_of value w).rows (now_of w)
   lawful_of w h =
       record {
         first = h.first;
@@ -140,10 +140,10 @@ module _ {F : Type 0} {value : F → Fraction} {task : Task F} {lo hi : ℚ} whe
         same = k.same ∙ h.same;
         first = h.first;
         solving = h.solving;
-        walked = h.walked ++ exchange_of value k.step ∷ [];
+        walked = h.walked ++ exchange_of k.step ∷ [];
         begins = k.trail.start ∙ h.begins;
         greedy = h.greedy;
-        all = k.trail.steps ∙ ap (λ steps. steps ++ exchange_of value k.step ∷ []) h.all ∙ append_assoc h.solving h.walked (exchange_of value k.step ∷ []);
+        all = k.trail.steps ∙ ap (λ steps. steps ++ exchange_of k.step ∷ []) h.all ∙ append_assoc h.solving h.walked (exchange_of k.step ∷ []);
         solved = h.solved;
         optimal = h.optimal;
         underway = by k.segments;
@@ -160,110 +160,110 @@ module _ {F : Type 0} {value : F → Fraction} {task : Task F} {lo hi : ℚ} whe
       ends : EndsAt task.problem.columns (here_of value after).inverse
       ends = subst (λ (t : Task F). EndsAt t.problem.columns (here_of value after).inverse) (k.same ∙ h.same) k.is_place.ends
 
-      step : IsWalkingStep (over_quantiles (sample value task.problem)) (at_of (here_of value before)) (here_of value before).inverse (is_below hi) (now_of value before) (rational (value k.step.theta)) k.step.position k.step.row
-      step = at_task before h (λ p. IsWalkingStep (over_quantiles (sample value p)) (at_of (here_of value before)) (here_of value before).inverse (is_below hi) (now_of value before)
-          (rational (value k.step.theta)) k.step.position k.step.row) k.is_step
+      step : IsWalkingStep (over_quantiles (sample value task.problem)) (at_of (here_of value before)) (here_of value before).inverse (is_below hi) (now_of before) (rational k.step.theta) k.step.position k.step.row
+      step = at_task before h (λ p. IsWalkingStep (over_quantiles (sample value p)) (at_of (here_of value before)) (here_of value before).inverse (is_below hi) (now_of before)
+          (rational k.step.theta) k.step.position k.step.row) k.is_step
 
       arrived : (segments : List Segment) → after.segments ≡ segments
-          → IsUnderway value task.problem lo hi (basis_after h.first h.solving) (h.walked ++ exchange_of value k.step ∷ []) segments (rational (value k.step.theta)) (slice_set (here_of value before).rows k.step.position k.step.row)
+          → IsUnderway value task.problem lo hi (basis_after h.first h.solving) (h.walked ++ exchange_of k.step ∷ []) segments (rational k.step.theta) (slice_set (here_of value before).rows k.step.position k.step.row)
           (here_of value after).inverse
-          → IsUnderway value task.problem lo hi (basis_after h.first h.solving) (h.walked ++ exchange_of value k.step ∷ []) after.segments (now_of value after) (here_of value after).rows (here_of value after).inverse
+          → IsUnderway value task.problem lo hi (basis_after h.first h.solving) (h.walked ++ exchange_of k.step ∷ []) after.segments (now_of after) (here_of value after).rows (here_of value after).inverse
       arrived segments e u =
-          subst (λ segs. IsUnderway value task.problem lo hi (basis_after h.first h.solving) (h.walked ++ exchange_of value k.step ∷ []) segs (now_of value after) (here_of value after).rows (here_of value after).inverse) (sym e)
-          (subst (λ now. IsUnderway value task.problem lo hi (basis_after h.first h.solving) (h.walked ++ exchange_of value k.step ∷ []) segments now (here_of value after).rows (here_of value after).inverse) (sym (ap (λ (x : F). rational (value x)) k.now))
-          (subst (λ rows. IsUnderway value task.problem lo hi (basis_after h.first h.solving) (h.walked ++ exchange_of value k.step ∷ []) segments (rational (value k.step.theta)) rows (here_of value after).inverse) (sym k.rows) u))
+          subst (λ segs. IsUnderway value task.problem lo hi (basis_after h.first h.solving) (h.walked ++ exchange_of k.step ∷ []) segs (now_of after) (here_of value after).rows (here_of value after).inverse) (sym e)
+          (subst (λ now. IsUnderway value task.problem lo hi (basis_after h.first h.solving) (h.walked ++ exchange_of k.step ∷ []) segments now (here_of value after).rows (here_of value after).inverse) (sym (ap rational k.now))
+          (subst (λ rows. IsUnderway value task.problem lo hi (basis_after h.first h.solving) (h.walked ++ exchange_of k.step ∷ []) segments (rational k.step.theta) rows (here_of value after).inverse) (sym k.rows) u))
 
-      by : AreSegmentsAfter value (here_of value before) (now_of value before) (rational (value k.step.theta)) before.segments after.segments
-          → IsUnderway value task.problem lo hi (basis_after h.first h.solving) (h.walked ++ exchange_of value k.step ∷ []) after.segments (now_of value after) (here_of value after).rows (here_of value after).inverse
+      by : AreSegmentsAfter value (here_of value before) (now_of before) (rational k.step.theta) before.segments after.segments
+          → IsUnderway value task.problem lo hi (basis_after h.first h.solving) (h.walked ++ exchange_of k.step ∷ []) after.segments (now_of after) (here_of value after).rows (here_of value after).inverse
       by (inl (s, less, seg, e)) =
           arrived (before.segments ++ s ∷ []) e
-          (with_segment value task.problem lo hi (basis_after h.first h.solving) h.walked before.segments (now_of value before) (here_of value before).rows (here_of value before).inverse (here_of value after).inverse (exchange_of value k.step)
+          (with_segment value task.problem lo hi (basis_after h.first h.solving) h.walked before.segments (now_of before) (here_of value before).rows (here_of value before).inverse (here_of value after).inverse (exchange_of k.step)
           costs costs' h.underway step is_basis ends s less
-          (at_task before h (λ p. IsSegmentOf value p (record { basis = (here_of value before).rows; lo = now_of value before; hi = rational (value k.step.theta) }) s) seg))
+          (at_task before h (λ p. IsSegmentOf value p (record { basis = (here_of value before).rows; lo = now_of before; hi = rational k.step.theta }) s) seg))
       by (inr (same, e)) =
           arrived before.segments e
-          (without_segment value task.problem lo hi (basis_after h.first h.solving) h.walked before.segments (now_of value before) (here_of value before).rows (here_of value before).inverse (here_of value after).inverse (exchange_of value k.step)
+          (without_segment value task.problem lo hi (basis_after h.first h.solving) h.walked before.segments (now_of before) (here_of value before).rows (here_of value before).inverse (here_of value after).inverse (exchange_of k.step)
           costs costs' h.underway step is_basis ends same)
 
       -- what is carried to the quantile of the step is carried over the step
-      over : (s : Segment) → IsCarried value (record { task = task; rows = (here_of value before).rows; inverse = (here_of value before).inverse }) (rational (value k.step.theta)) s
-          → IsCarried value (here_of value after) (now_of value after) s
+      over : (s : Segment) → IsCarried value (record { task = task; rows = (here_of value before).rows; inverse = (here_of value before).inverse }) (rational k.step.theta) s
+          → IsCarried value (here_of value after) (now_of after) s
       over s c =
-          subst (λ (j : Task F). IsCarried value (record { task = j; rows = (here_of value after).rows; inverse = (here_of value after).inverse }) (now_of value after) s) (sym (k.same ∙ h.same))
-          (subst (λ rows. IsCarried value (record { task = task; rows = rows; inverse = (here_of value after).inverse }) (now_of value after) s) (sym k.rows)
+          subst (λ (j : Task F). IsCarried value (record { task = j; rows = (here_of value after).rows; inverse = (here_of value after).inverse }) (now_of after) s) (sym (k.same ∙ h.same))
+          (subst (λ rows. IsCarried value (record { task = task; rows = rows; inverse = (here_of value after).inverse }) (now_of after) s) (sym k.rows)
           (subst (λ now. IsCarried value (record { task = task; rows = slice_set (here_of value before).rows k.step.position k.step.row; inverse = (here_of value after).inverse }) now s)
-          (sym (ap (λ (x : F). rational (value x)) k.now))
-          (carried_on value task lo hi (basis_after h.first h.solving) h.walked before.segments (now_of value before) (here_of value before).rows (here_of value before).inverse (here_of value after).inverse (exchange_of value k.step)
+          (sym (ap rational k.now))
+          (carried_on value task lo hi (basis_after h.first h.solving) h.walked before.segments (now_of before) (here_of value before).rows (here_of value before).inverse (here_of value after).inverse (exchange_of k.step)
           costs costs' h.underway step is_basis s c)))
 
-      carried_by : AreSegmentsAfter value (here_of value before) (now_of value before) (rational (value k.step.theta)) before.segments after.segments
-          → IsLastCarried value (here_of value after) (now_of value after) after.segments
+      carried_by : AreSegmentsAfter value (here_of value before) (now_of before) (rational k.step.theta) before.segments after.segments
+          → IsLastCarried value (here_of value after) (now_of after) after.segments
       carried_by (inl (s, less, seg, e)) =
-          subst (IsLastCarried value (here_of value after) (now_of value after)) (sym e)
-          (last_put (IsCarried value (here_of value after) (now_of value after)) before.segments s
-          (over s (carried_here value task lo hi (basis_after h.first h.solving) h.walked before.segments (now_of value before) (here_of value before).rows (here_of value before).inverse (here_of value after).inverse (exchange_of value k.step)
+          subst (IsLastCarried value (here_of value after) (now_of after)) (sym e)
+          (last_put (IsCarried value (here_of value after) (now_of after)) before.segments s
+          (over s (carried_here value task lo hi (basis_after h.first h.solving) h.walked before.segments (now_of before) (here_of value before).rows (here_of value before).inverse (here_of value after).inverse (exchange_of k.step)
           costs costs' h.underway step is_basis s
-          (at_task before h (λ p. IsSegmentOf value p (record { basis = (here_of value before).rows; lo = now_of value before; hi = rational (value k.step.theta) }) s) seg))))
+          (at_task before h (λ p. IsSegmentOf value p (record { basis = (here_of value before).rows; lo = now_of before; hi = rational k.step.theta }) s) seg))))
       carried_by (inr (same, e)) =
-          subst (IsLastCarried value (here_of value after) (now_of value after)) (sym e)
-          (some_weaker (IsCarried value (here_of value before) (now_of value before)) (IsCarried value (here_of value after) (now_of value after))
+          subst (IsLastCarried value (here_of value after) (now_of after)) (sym e)
+          (some_weaker (IsCarried value (here_of value before) (now_of before)) (IsCarried value (here_of value after) (now_of after))
           (λ s c. over s (subst (λ now. IsCarried value (record { task = task; rows = (here_of value before).rows; inverse = (here_of value before).inverse }) now s) same
-          (subst (λ (j : Task F). IsCarried value (record { task = j; rows = (here_of value before).rows; inverse = (here_of value before).inverse }) (now_of value before) s) h.same c)))
+          (subst (λ (j : Task F). IsCarried value (record { task = j; rows = (here_of value before).rows; inverse = (here_of value before).inverse }) (now_of before) s) h.same c)))
           (slice_get before.segments (length before.segments - 1)) h.carried)
 
   -- a refusal halts the walk
   pub walk_refused : (range limit : ℕ) (w : Walk F) (after : Trail) (e : Failure F) (halt : Halt F) → IsWalking value task lo hi w → length w.reached.trail.steps ≤ limit
-      → IsRefusedOf (IsRefusal value range (here_of value w) (walking (now_of value w) hi) w.reached.trail after) e → IsHaltOf e after halt → IsWalkHalted value range task lo hi limit halt
+      → IsRefusedOf (IsRefusal value range (here_of value w) (walking (now_of w) hi) w.reached.trail after) e → IsHaltOf e after halt → IsWalkHalted value range task lo hi limit halt
   walk_refused range limit w after OutOfMemory halt h short k is = subst (IsWalkHalted value range task lo hi limit) (sym is) tt
   walk_refused range limit w after (Of r) halt h short k is =
       subst (IsWalkHalted value range task lo hi limit) (sym is)
       (record {
         here = here_of value w;
-        now = now_of value w;
+        now = now_of w;
         same = h.same;
         is_place = h.is_place;
-        lawful = subst (λ t. IsProcessTrail (sample_of value (here_of value w)) lo hi t (here_of value w).rows (now_of value w)) (sym k.kept)
-            (at_here w h (λ p. IsProcessTrail (sample value p) lo hi w.reached.trail (here_of value w).rows (now_of value w)) (lawful_of w h));
+        lawful = subst (λ t. IsProcessTrail (sample_of value (here_of value w)) lo hi t (here_of value w).rows (now_of w)) (sym k.kept)
+            (at_here w h (λ p. IsProcessTrail (sample value p) lo hi w.reached.trail (here_of value w).rows (now_of w)) (lawful_of w h));
         short = subst (λ (t : Trail). length t.steps ≤ limit) (sym k.kept) short;
         refusal = k.refusal;
       })
 
   -- and so does a step that is left at the limit
-  pub limit_walked : (limit : ℕ) (w : Walk F) (x : WalkingStep F) → IsWalking value task lo hi w → length w.reached.trail.steps ≡ limit → IsStepTo value (here_of value w) (now_of value w) hi x
+  pub limit_walked : (limit : ℕ) (w : Walk F) (x : WalkingStep) → IsWalking value task lo hi w → length w.reached.trail.steps ≡ limit → IsStepTo value (here_of value w) (now_of w) hi x
       → ReachesWalkLimit (sample value task.problem) lo hi limit w.reached.trail
   limit_walked limit w x h counted step =
       record {
         basis = (here_of value w).rows;
-        now = now_of value w;
+        now = now_of w;
         lawful = lawful_of w h;
         count = counted;
-        more = at_task w h (λ p. HasWalkingStep theta_value (over_quantiles (sample value p)) (is_below hi) (now_of value w) (here_of value w).rows)
-            (at_place value (here_of value w) h.is_place (λ a. (t : ℚ) × (j : ℕ) × (r : ℕ) × IsWalkingStep (over_quantiles (sample_of value (here_of value w))) (at_of (here_of value w)) a (is_below hi) (now_of value w) t j r)
-            (rational (value x.theta), x.position, x.row, step));
+        more = at_task w h (λ p. HasWalkingStep theta_value (over_quantiles (sample value p)) (is_below hi) (now_of w) (here_of value w).rows)
+            (at_place value (here_of value w) h.is_place (λ a. (t : ℚ) × (j : ℕ) × (r : ℕ) × IsWalkingStep (over_quantiles (sample_of value (here_of value w))) (at_of (here_of value w)) a (is_below hi) (now_of w) t j r)
+            (rational x.theta, x.position, x.row, step));
       }
 
   module _ (limit : ℕ) (w : Walk F) (h : IsWalkedOut value task lo hi limit w) where
     -- where no step is left the stay goes on to hi
-    pub last_end : HasCosts (sample_of value (here_of value w)) hi → IsSegmentTo value (here_of value w) (now_of value w) hi hi
+    pub last_end : HasCosts (sample_of value (here_of value w)) hi → IsSegmentTo value (here_of value w) (now_of w) hi hi
     last_end costs =
         record {
-          stay = inr (refl, end_reached (sample_of value (here_of value w)) (at_of (here_of value w)) (here_of value w).inverse (now_of value w) hi h.walking.is_place.is_basis costs h.still);
-          reported = less_or_same (now_of value w) hi h.walking.underway.upper;
+          stay = inr (refl, end_reached (sample_of value (here_of value w)) (at_of (here_of value w)) (here_of value w).inverse (now_of w) hi h.walking.is_place.is_basis costs h.still);
+          reported = less_or_same (now_of w) hi h.walking.underway.upper;
         }
 
     -- and its segment is the last one
-    pub walk_done : (s : Segment) (segments : List Segment) → IsSegmentHere value (here_of value w) (now_of value w) hi s → segments ≡ w.segments ++ s ∷ []
+    pub walk_done : (s : Segment) (segments : List Segment) → IsSegmentHere value (here_of value w) (now_of w) hi s → segments ≡ w.segments ++ s ∷ []
         → IsWalkDone value task lo hi limit (record { segments = segments; trail = w.reached.trail })
     unfolding lawful_of
     walk_done s segments seg e =
         record {
           basis = (here_of value w).rows;
-          now = now_of value w;
+          now = now_of w;
           lawful = lawful_of w h.walking;
-          ended = at_task w h.walking (λ p. IsWalkEnd theta_value (over_quantiles (sample value p)) (is_below hi) (now_of value w) (here_of value w).rows)
-              (at_place value (here_of value w) h.walking.is_place (λ a. (t : ℚ) (j r : ℕ) → ¬ IsWalkingStep (over_quantiles (sample_of value (here_of value w))) (at_of (here_of value w)) a (is_below hi) (now_of value w) t j r) h.still);
+          ended = at_task w h.walking (λ p. IsWalkEnd theta_value (over_quantiles (sample value p)) (is_below hi) (now_of w) (here_of value w).rows)
+              (at_place value (here_of value w) h.walking.is_place (λ a. (t : ℚ) (j r : ℕ) → ¬ IsWalkingStep (over_quantiles (sample_of value (here_of value w))) (at_of (here_of value w)) a (is_below hi) (now_of w) t j r) h.still);
           segments = subst (AreSegmentsOf value task.problem (filter (is_reported lo hi) (stays theta_value hi lo (basis_after h.walking.first h.walking.solving) h.walking.walked))) (sym e)
-              (done value task.problem lo hi (basis_after h.walking.first h.walking.solving) h.walking.walked w.segments (now_of value w) (here_of value w).rows (here_of value w).inverse s h.walking.underway
-              (at_task w h.walking (λ p. IsSegmentOf value p (record { basis = (here_of value w).rows; lo = now_of value w; hi = hi }) s) seg));
+              (done value task.problem lo hi (basis_after h.walking.first h.walking.solving) h.walking.walked w.segments (now_of w) (here_of value w).rows (here_of value w).inverse s h.walking.underway
+              (at_task w h.walking (λ p. IsSegmentOf value p (record { basis = (here_of value w).rows; lo = now_of w; hi = hi }) s) seg));
           short = h.short;
         }

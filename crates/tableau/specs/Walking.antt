@@ -32,17 +32,18 @@ pub record IsLonger (before after : Trail) (x : Exchange) : Type 0 where
   pub rise : after.rise ≡ before.rise
   pub fall : after.fall ≡ before.fall
 
-module _ {F : Type 0} (value : F → Fraction) where
-  -- the quantile at which a walk stands, and its basis
-  abbrev pub now_of : Walk F → ℚ
-  now_of w = rational (value w.now)
+-- a walking step as a trail has it
+abbrev pub exchange_of : WalkingStep → Exchange
+exchange_of x = record { theta = x.theta; position = x.position; row = x.row }
 
+-- the quantile at which a walk stands
+abbrev pub now_of : {F : Type 0} → Walk F → ℚ
+now_of w = rational w.now
+
+module _ {F : Type 0} (value : F → Fraction) where
+  -- the basis at which a walk stands
   abbrev pub here_of : Walk F → Place F
   here_of w = place_of value w.reached.tableau
-
-  -- a walking step as a trail has it
-  abbrev pub exchange_of : WalkingStep F → Exchange
-  exchange_of x = record { theta = value x.theta; position = x.position; row = x.row }
 
   -- the last of the segments, if there is one, has at its upper end what stands at the place at t
   abbrev pub IsLastCarried : Place F → ℚ → List Segment → Type 0
@@ -56,14 +57,14 @@ module _ {F : Type 0} (value : F → Fraction) where
 
   -- a step below hi is made
   pub record IsWalked (hi : ℚ) (before after : Walk F) : Type 0 where
-    pub step : WalkingStep F
+    pub step : WalkingStep
     pub is_step : IsStepTo value (here_of before) (now_of before) hi step
     pub is_place : IsPlace value (here_of after)
     pub same : (here_of after).task ≡ (here_of before).task
     pub rows : (here_of after).rows ≡ slice_set (here_of before).rows step.position step.row
     pub now : after.now ≡ step.theta
     pub trail : IsLonger before.reached.trail after.reached.trail (exchange_of step)
-    pub segments : AreSegmentsAfter (here_of before) (now_of before) (rational (value step.theta)) before.segments after.segments
+    pub segments : AreSegmentsAfter (here_of before) (now_of before) (rational step.theta) before.segments after.segments
 
   -- a step is made, or none is left
   abbrev pub IsWalkedOrStill : ℚ → Walk F → Walk F → Bool → Type 0

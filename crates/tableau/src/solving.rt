@@ -6,10 +6,11 @@ ghost use Rattle.loss_model.specs.Greedy.{IsGreedyBasis};
 ghost use Rattle.loss_model.specs.StartStop.{IsStartStop};
 ghost use Rattle.pivot_model.specs.Duals.{HasCosts};
 ghost use Rattle.tableau.specs.declared.solving.Halt.TheVariants.{PivotLimit};
-ghost use Rattle.tableau_model.specs.Places.{in_fractions, in_wholes, sample_of};
+ghost use Rattle.tableau_model.specs.Places.{in_fractions, in_long, in_wholes, sample_of};
 ghost use Rattle.tableau_model.specs.Questions.{solving, IsStepOf};
 ghost use Rattle.tableau_model.specs.Refusals.{IsRefusedOf};
 ghost use Rattle.tableau_model.specs.Answers.{IsOptimalAt};
+ghost use Rattle.long_tableau.specs.Kept.{IsSetting as IsLongSetting};
 ghost use Rattle.whole_tableau.specs.Kept.{IsSetting};
 ghost use Rattle.tableau.specs.Bodies.{place_of};
 ghost use Rattle.tableau.specs.Solving.{IsBegun, IsUnderway, IsAdvance, IsAdvanceOrEnd, IsRefusal, IsSolved, IsSolution, IsHalted, IsHaltOf, exchange_at, stop_of};
@@ -17,6 +18,7 @@ ghost use Rattle.tableau.specs.Solving.{IsBegun, IsUnderway, IsAdvance, IsAdvanc
 use crate::bodies::Tableau;
 use frac_core::{Exact, List, OutOfMemory};
 use fraction_tableau::FractionTableau;
+use long_tableau::{LongSetting, LongTableau};
 use loss_model::{Exchange, Problem, Stop, Trail};
 use ratio::Ratio;
 use std::alloc::Global;
@@ -57,8 +59,25 @@ fn full_start(alloc: Global, rows: &[u32]) -> Result<List<Option<u32>>, OutOfMem
     Ok(start)
 }
 
-/// Puts the step at theta to the steps of a trail.
-pub(crate) fn add_step<F: Exact>(
+/// Puts a step at theta to the steps of a trail.
+pub(crate) fn put_step(
+    steps: &mut List<Exchange>,
+    theta: Ratio,
+    step: Step,
+) -> Result<(), OutOfMemory>
+    ensures { OnOk result (steps.new ≡ steps.old ++ exchange_at theta step ∷ []) }
+{
+    let made = Exchange {
+        theta,
+        position: step.position,
+        row: step.row,
+    };
+    steps.add(made)?;
+    Ok(())
+}
+
+/// The same at a fraction.
+fn add_step<F: Exact>(
     alloc: Global,
     steps: &mut List<Exchange>,
     theta: F,
@@ -67,12 +86,7 @@ pub(crate) fn add_step<F: Exact>(
     ensures { OnOk result (steps.new ≡ steps.old ++ exchange_at (F.value theta) step ∷ []) }
 {
     let theta = Ratio::widen(alloc, theta)?;
-    let made = Exchange {
-        theta,
-        position: step.position,
-        row: step.row,
-    };
-    steps.add(made)?;
+    put_step(steps, theta, step)?;
     Ok(())
 }
 
@@ -86,8 +100,8 @@ pub fn halt_of<F: Exact>(refused: Failure<F>, trail: Trail) -> Halt<F>
     }
 }
 
-/// The stop of a job with this limit for which its loop halted. There is none where whole numbers are too wide: the
-/// job is done again in fractions.
+/// The stop of a job with this limit for which its loop halted. There is none where whole numbers of 64 bits are too wide:
+/// the job is done again by another body.
 pub fn stop_of<F: Exact>(halt: Halt<F>, limit: u32) -> Option<Stop<F>>
     ensures { result ≡ stop_of limit halt }
 {
@@ -134,7 +148,7 @@ impl<'a, F: Exact> Progress<'a, F> {
         Ok(begun)
     }
 
-    /// The greedy start of a problem, in whole numbers. They refuse too where the columns are dependent.
+    /// The greedy start of a problem, in whole numbers of 64 bits. They refuse too where the columns are dependent.
     pub fn begin_in_wholes(
         alloc: Global,
         problem: &'a Problem<F>,
@@ -146,6 +160,22 @@ impl<'a, F: Exact> Progress<'a, F> {
     {
         let body = WholeTableau::begin(alloc, problem, setting)?;
         let begun = Progress::at_start(alloc, Tableau::Wholes(body))?;
+        Ok(begun)
+    }
+
+    /// The greedy start of a problem, in whole numbers of any size.
+    pub fn begin_in_long(
+        alloc: Global,
+        problem: &'a Problem<F>,
+        setting: &'a LongSetting,
+    ) -> Result<Progress<'a, F>, Stop<F>>
+        requires shaped { IsWellShaped problem.now }
+        requires setting { IsLongSetting F.value problem.now setting.now }
+        ensures begun { IfOk result (IsBegun F.value (record { problem = problem.now; body = in_long })) }
+        ensures stopped { IfErr result (IsStartStop F.value F.range problem.now) }
+    {
+        let body = LongTableau::begin(alloc, problem, setting)?;
+        let begun = Progress::at_start(alloc, Tableau::Long(body))?;
         Ok(begun)
     }
 

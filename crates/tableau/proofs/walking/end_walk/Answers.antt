@@ -13,8 +13,8 @@ pub returns-in-Err-clause-halted : goal.returns-in-Err-clause-halted
 returns-in-Err-clause-halted g c =
     let value = g.F.Exact.value in
     let w = c.args.walk in
-    let hi = rational (value c.args.hi) in
+    let hi = rational c.args.hi.now in
     let out = c.requires.out in
     walk_refused g.F.Exact.range c.args.limit w w.reached.trail c.in-Err.refused c.halt.result out.walking out.short
-    (refusal_kept value g.F.Exact.range (here_of value w) (walking (now_of value w) hi) w.reached.trail c.in-Err.refused ((c.in-Err.ensures {u = tt}).refused hi (last_end c.args.limit w out c.requires.costs)))
+    (refusal_kept value g.F.Exact.range (here_of value w) (walking (now_of w) hi) w.reached.trail c.in-Err.refused ((c.in-Err.ensures {u = tt}).refused hi (last_end c.args.limit w out c.requires.costs)))
     c.halt.ensures

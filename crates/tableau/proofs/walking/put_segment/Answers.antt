@@ -7,18 +7,18 @@ use Rattle.tableau.proofs.walking.put_segment.Goals as goal
 
 pub returns-then-not-is_lt-clause-segments : goal.returns-then-not-is_lt-clause-segments
 returns-then-not-is_lt-clause-segments g c =
-    let from = rational (g.F.Exact.value c.args.from) in
-    let to = rational (g.F.Exact.value c.args.to) in
+    let from = rational c.args.from.now in
+    let to = rational c.args.to.now in
     inr (same_from_test from to (sym (ap is_lt c.compare.ensures) ∙ sym c.is_lt.ensures ∙ c.if-not-is_lt.true) c.requires.after, refl)
 
 pub returns-in-Ok-push_segment-clause-segments : goal.returns-in-Ok-push_segment-clause-segments
 returns-in-Ok-push_segment-clause-segments g c =
-    let from = rational (g.F.Exact.value c.args.from) in
-    let to = rational (g.F.Exact.value c.args.to) in
+    let from = rational c.args.from.now in
+    let to = rational c.args.to.now in
     inl (c.in-Ok.segment, below_from from to (sym (ap is_lt c.compare.ensures) ∙ sym c.is_lt.ensures ∙ c.if-not-is_lt.false), (c.in-Ok.ensures {u = tt}).segment, (c.in-Ok-push_segment.ensures {u = tt}).pushed)
 
 pub returns-in-Err-clause-refused : goal.returns-in-Err-clause-refused
 returns-in-Err-clause-refused g c = λ hi stay.
-    let from = rational (g.F.Exact.value c.args.from) in
-    let to = rational (g.F.Exact.value c.args.to) in
+    let from = rational c.args.from.now in
+    let to = rational c.args.to.now in
     (c.in-Err.ensures {u = tt}).refused hi (record { stay = stay; reported = inl (below_from from to (sym (ap is_lt c.compare.ensures) ∙ sym c.is_lt.ensures ∙ c.if-not-is_lt.false)) })

@@ -1,6 +1,7 @@
-use Rattle.std.proofs.Common.{◌≡◌, ◌+◌, length, sym, ap, subst, arith, ◌∙◌}
+use Rattle.std.proofs.Common.{◌≡◌, ◌≢◌, ◌+◌, length, sym, ap, subst, arith, ◌∙◌}
 use Rattle.std.proofs.lemmas.List.{length_push}
 use Rattle.rational_laws.specs.Fraction.{rational}
+use Rattle.tableau_model.specs.Places.{Task, in_fractions}
 use Rattle.tableau_model.specs.Questions.{walking}
 use Rattle.tableau.specs.Walking.{now_of, here_of, exchange_of, IsWalkHalted}
 use Rattle.tableau.proofs.Halts.{refusal_kept}
@@ -12,6 +13,9 @@ loop-init g c =
     let size = ap length c.as_slice.ensures in
     record { walking = c.requires.begun; counted = sym size; short = omega (arith, size, c.requires.short) }
 
+pub advance-requires-clause-body : goal.advance-requires-clause-body
+advance-requires-clause-body g c κs within = subst (λ (t : Task _). t.body ≢ in_fractions) (sym c.loop.invariant.walking.same) c.requires.body
+
 pub advance-requires-clause-costs : goal.advance-requires-clause-costs
 advance-requires-clause-costs g c κs within = costs_here c.loop.walk c.loop.invariant.walking c.requires.costs_hi
 
@@ -20,6 +24,9 @@ advance-requires-clause-optimal g c κs within = optimal_now c.loop.walk c.loop.
 
 pub advance-requires-clause-carried : goal.advance-requires-clause-carried
 advance-requires-clause-carried g c κs within = c.loop.invariant.walking.carried
+
+pub walking_step-requires-clause-body : goal.walking_step-requires-clause-body
+walking_step-requires-clause-body g c κs within = subst (λ (t : Task _). t.body ≢ in_fractions) (sym c.loop.invariant.walking.same) c.requires.body
 
 pub walking_step-requires-clause-costs : goal.walking_step-requires-clause-costs
 walking_step-requires-clause-costs g c κs within = costs_here c.loop.walk c.loop.invariant.walking c.requires.costs_hi
@@ -42,7 +49,7 @@ loop-preserved g c =
     let value = g.F.Exact.value in
     let w = c.loop.walk in
     let k = rw c.in-Ok-true.field-0-test at (c.in-Ok-true.ensures {u = tt}).next in
-    let longer : length c.advance.new.self.reached.trail.steps ≡ length w.reached.trail.steps + 1 = ap length k.trail.steps ∙ length_push w.reached.trail.steps (exchange_of value k.step) in
+    let longer : length c.advance.new.self.reached.trail.steps ≡ length w.reached.trail.steps + 1 = ap length k.trail.steps ∙ length_push w.reached.trail.steps (exchange_of k.step) in
     record {
       walking = goes_on w c.advance.new.self c.requires.costs_lo c.requires.costs_hi c.loop.invariant.walking k;
       counted = omega (arith, longer, c.loop.invariant.counted);
@@ -58,7 +65,7 @@ pub returns-in-Ok-Some-clause-halted : goal.returns-in-Ok-Some-clause-halted
 returns-in-Ok-Some-clause-halted g c =
     let value = g.F.Exact.value in
     let step = rw c.in-Ok-Some.field-0-is at (c.in-Ok-Some.ensures {u = tt}).step in
-    subst (IsWalkHalted value g.F.Exact.range (here_of value c.args.from).task (rational (value c.args.lo)) (rational (value c.args.hi)) c.args.limit) (sym c.halt_at_limit.ensures)
+    subst (IsWalkHalted value g.F.Exact.range (here_of value c.args.from).task (rational (value c.args.lo)) (rational c.args.hi.now) c.args.limit) (sym c.halt_at_limit.ensures)
     (limit_walked c.args.limit c.loop.walk c.in-Ok-Some.field-0-0 c.loop.invariant.walking (omega (arith, c.loop.invariant.counted, c.loop-test.false, c.loop.invariant.short)) step)
 
 pub returns-in-Err-walking_step-clause-halted : goal.returns-in-Err-walking_step-clause-halted
@@ -67,5 +74,5 @@ returns-in-Err-walking_step-clause-halted g c =
     let w = c.loop.walk in
     walk_refused g.F.Exact.range c.args.limit w w.reached.trail c.in-Err-walking_step.refused c.halt-in-Err-walking_step.result c.loop.invariant.walking
     (omega (arith, c.loop.invariant.counted, c.loop-test.false, c.loop.invariant.short))
-    (refusal_kept value g.F.Exact.range (here_of value w) (walking (now_of value w) (rational (value c.args.hi))) w.reached.trail c.in-Err-walking_step.refused (c.in-Err-walking_step.ensures {u = tt}).refused)
+    (refusal_kept value g.F.Exact.range (here_of value w) (walking (now_of w) (rational c.args.hi.now)) w.reached.trail c.in-Err-walking_step.refused (c.in-Err-walking_step.ensures {u = tt}).refused)
     c.halt-in-Err-walking_step.ensures

@@ -13,13 +13,13 @@ returns-in-Err-clause-refused g c =
     let value = g.F.Exact.value in
     let w = c.args.self.now in
     let h = here_of value w in
-    let hi = rational (value c.args.hi) in
-    refusal_kept value g.F.Exact.range h (walking (now_of value w) hi) w.reached.trail c.in-Err.refused ((c.in-Err.ensures {u = tt}).refused hi (step_ends value h (now_of value w) hi c.args.step c.requires.step))
+    let hi = rational c.args.hi.now in
+    refusal_kept value g.F.Exact.range h (walking (now_of w) hi) w.reached.trail c.in-Err.refused ((c.in-Err.ensures {u = tt}).refused hi (step_ends value h (now_of w) hi c.args.step c.requires.step))
 
 pub returns-in-Err-exchange_first-clause-refused : goal.returns-in-Err-exchange_first-clause-refused
 returns-in-Err-exchange_first-clause-refused g c =
     let value = g.F.Exact.value in
     let w = c.args.self.now in
-    let asked = walking (now_of value w) (rational (value c.args.hi)) in
+    let asked = walking (now_of w) (rational c.args.hi.now) in
     refusal_kept value g.F.Exact.range (here_of value w) asked w.reached.trail c.in-Err-exchange_first.refused
-    ((c.in-Err-exchange_first.ensures {u = tt}).refused asked (rational (value c.args.step.theta), c.requires.step))
+    ((c.in-Err-exchange_first.ensures {u = tt}).refused asked (rational c.args.step.theta, c.requires.step))
