@@ -12,4 +12,4 @@ returns-in_ok-value-in-Some g c =
     let k = c.args.self.now in
     let found = c.in-Some.ensures {u = tt} in
     ap rational (c.in_ok-value-in-Some.ensures {u = tt})
-    ∙ found.3 ∙ c.requires.carried.each found.0 found.1 ∙ ap (dual (sample value k.problem) (slice_index k.rows) (place value k).inverse (rational (value c.args.theta))) found.2
+    ∙ found.3 ∙ c.requires.carried.each found.0 found.1 ∙ ap (dual (sample value k.problem) (slice_index k.rows) (place value k).inverse (rational (value c.args.reading.theta))) found.2

@@ -18,6 +18,6 @@ loop-k-preserved g c =
     let before = c.loop-k.invariant in
     rw (grown) (record {
       size = length_push basic x ∙ ap (λ n. n + 1) before.size;
-      each = value_more (λ x. x) basic _ x c.loop-k.k (λ i. dual (sample value k.problem) (slice_index k.rows) (place value k).inverse (rational (value c.args.theta)) (slice_index c.args.sorted.now i)) refl
+      each = value_more (λ x. x) basic _ x c.loop-k.k (λ i. dual (sample value k.problem) (slice_index k.rows) (place value k).inverse (rational (value c.args.reading.theta)) (slice_index c.args.sorted.now i)) refl
           before.size before.each (c.in_ok-value.ensures {u = tt});
     })

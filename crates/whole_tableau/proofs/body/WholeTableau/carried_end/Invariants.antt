@@ -9,5 +9,5 @@ abbrev pub invariant-loop-k : goal.invariant-loop-k
 invariant-loop-k g l = record {
   size : length l.basic ≡ l.k;
   each : (i : ℕ) → i < l.k → number_at l.basic i
-      ≡ dual (sample g.F.Exact.value l.self.problem) (slice_index l.self.rows) (place g.F.Exact.value l.self).inverse (rational (g.F.Exact.value l.theta)) (slice_index l.sorted i);
+      ≡ dual (sample g.F.Exact.value l.self.problem) (slice_index l.self.rows) (place g.F.Exact.value l.self).inverse (rational (g.F.Exact.value l.reading.theta)) (slice_index l.sorted i);
 }

@@ -1,22 +1,23 @@
--- The dual values by position, as the rows have them.
-use Rattle.std.proofs.Common.{length, map, sym, ap, ◌∙◌}
+-- A dual value more.
+use Rattle.std.proofs.Common.{rules, ◌≡◌, ◌+◌, ◌++◌, ◌∷◌, [], slice_index, refl, ap, ◌∙◌}
+use Rattle.std.proofs.lemmas.List.{length_push}
+use Rattle.basis_inverse.proofs.Lists.{value_more}
 use Rattle.rational_laws.specs.Fraction.{rational}
-use Rattle.tableau_model.proofs.Vertices.{duals_by_row}
+use Rattle.loss_model.specs.Problem.{sample}
+use Rattle.pivot_model.specs.Duals.{dual}
 use Rattle.whole_tableau.specs.Kept.{place}
 use Rattle.whole_tableau.proofs.body.WholeTableau.row_duals.Goals as goal
 
-pub by_row-requires-clause-same : goal.by_row-requires-clause-same
-by_row-requires-clause-same g c κs within =
-    ap length c.as_slice.ensures ∙ (c.in_ok-duals.ensures {u = tt}).size ∙ sym (ap length (c.as_slice-basis.ensures ∙ c.basis.ensures.rows) ∙ c.basis.ensures.place.size)
-
-pub by_row-requires-clause-members : goal.by_row-requires-clause-members
-by_row-requires-clause-members g c κs within = rw (c.as_slice-basis.ensures, c.basis.ensures.rows) c.requires.members
-
-pub returns : goal.returns
-returns g c =
+pub loop-k-preserved : goal.loop-k-preserved
+loop-k-preserved g c =
     let value = g.F.Exact.value in
-    let values = rw (c.as_slice-basis.ensures, c.basis.ensures.rows, c.as_slice.ensures) at (c.in_ok-values.ensures {u = tt}) in
-    let made = (c.in_ok-made.ensures {u = tt}) ∙ ap (map value) c.as_slice-2.ensures in
-    let wide = duals_by_row value (place value c.args.self.now) c.basis.ensures.place (rational (value c.args.theta)) c.in_ok-duals.duals (c.in_ok-duals.ensures {u = tt})
-    c.args.rows.now c.in_ok-values.values c.in_ok-made.made made values.size values.each in
-    record { size = wide.0; each = wide.1 }
+    let k = c.args.self.now in
+    let made = c.loop-k.made in
+    let x = c.in_ok-value.value in
+    let grown : c.add.new.self ≡ made ++ x ∷ [] = search rules in
+    let before = c.loop-k.invariant in
+    rw (grown) (record {
+      size = length_push made x ∙ ap (λ n. n + 1) before.size;
+      each = value_more (λ x. x) made _ x c.loop-k.k (λ i. dual (sample value k.problem) (slice_index k.rows) (place value k).inverse (rational (value c.args.reading.theta)) (slice_index c.args.rows.now i)) refl
+          before.size before.each (c.in_ok-value.ensures {u = tt});
+    })
