@@ -27,12 +27,14 @@ pub fn solving_step(
     ensures { IfOk result (IsSolvingOrNone station.now (rational theta.now)) }
 {
     let quantile = LongQuantile::of(theta);
-    let Some(leave) = steepest(alloc, station, &quantile, columns)? else {
-        return Ok(None);
-    };
-    let row = entering_row(alloc, station, &quantile, &leave)?;
-    Ok(Some(Step {
-        position: leave.position,
-        row,
-    }))
+    match steepest(alloc, station, &quantile, columns)? {
+        None => Ok(None),
+        Some(leave) => {
+            let row = entering_row(alloc, station, &quantile, &leave)?;
+            Ok(Some(Step {
+                position: leave.position,
+                row,
+            }))
+        }
+    }
 }

@@ -28,7 +28,8 @@ fn step_at(
     ensures { IfOk result (IsWalkingOrNone station.now (rational hi.now)) }
 {
     let theta = next.theta(alloc)?;
-    if !theta.compare(alloc, hi)?.is_lt() {
+    let order = theta.compare(alloc, hi)?;
+    if !order.is_lt() {
         return Ok(None);
     }
     let position = next.position();
