@@ -24,11 +24,16 @@
 
 mod crossings;
 mod first;
+mod heap;
 mod leaving;
+mod line;
+mod movers;
+mod order;
 mod quantile;
 mod search;
 mod slopes;
 mod solving;
+mod tie;
 mod walking;
 
 pub use solving::solving_step;
