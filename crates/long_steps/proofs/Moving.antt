@@ -89,7 +89,7 @@ module _ (l : Line) where
   pub below_none : AreMoversBelow l 0 []
   below_none =
       record {
-        each = λ k m e. absurd (cc (sym (slice_get_past {Mover} [] k (omega arith)) ∙ e));
+        each = λ k m e. absurd (cc (sym (slice_get_past {X = Mover} [] k (omega arith)) ∙ e));
         all = λ i li. absurd (omega (arith, li));
         below = λ k lk. absurd (omega (arith, lk));
         apart = λ j k less lk. absurd (omega (arith, lk));

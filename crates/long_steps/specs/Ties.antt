@@ -1,13 +1,12 @@
--- Inner. Two perturbed ratios whose first entries agree, entry by entry.
-use Rattle.std.specs.Prelude.{◌≡◌, ℕ, suc, ◌<◌, ◌≤◌, true, length, pos}
+-- Inner. A row that moves, with what the entries of its perturbed ratio share.
+use Rattle.std.specs.Prelude.{◌≡◌, ◌<◌, ◌≤◌, true, length, pos}
 use Rattle.loss_model.specs.Spill.{abs_ℚ}
 use Rattle.basis_model.specs.Perturbed.{perturbed_side}
 use Rattle.basis_model.specs.Basis.{outside_row}
 use Rattle.whole_inverse.specs.Shares.{share}
 use Rattle.long_steps.specs.declared.line.Line.{Line}
 use Rattle.long_steps.specs.declared.tie.Tied.{Tied}
-use Rattle.long_steps.specs.declared.tie.Entry.{Entry}
-use Rattle.long_steps.specs.Lines.{model, at_of, inverse_at, over_of, coord_of, ratio_of, is_moving}
+use Rattle.long_steps.specs.Lines.{model, at_of, inverse_at, over_of, coord_of, is_moving}
 
 -- the row moves, and these are its side and the size of its coordinate at the position
 pub record IsTied (l : Line) (t : Tied) : Type 0 where
@@ -16,8 +15,3 @@ pub record IsTied (l : Line) (t : Tied) : Type 0 where
   pub side : t.side ≡ perturbed_side (model l).rows (model l).columns (at_of l) (outside_row (model l) (at_of l) (inverse_at l) t.row)
   pub some : 1 ≤ t.size.now
   pub size : share (pos t.size.now) (over_of l) ≡ abs_ℚ (coord_of l t.row)
-
--- the entry of the ratio of row i at the row that position k holds
-pub record IsEntryAt (l : Line) (i k : ℕ) (e : Entry) : Type 0 where
-  pub some : 1 ≤ e.under.now
-  pub is : share e.over (pos e.under.now) ≡ ratio_of l i (suc (at_of l k))

@@ -4,7 +4,7 @@ use Rattle.long_steps.proofs.LeastItem.{first_on, some_there}
 use Rattle.long_steps.proofs.first.first_mover.Goals as goal
 
 pub movers-requires : goal.movers-requires
-movers-requires c = record { station = c.requires.station; position = c.requires.position }
+movers-requires c = record { line = record { station = c.requires.station; position = c.requires.position } }
 
 pub first_of-requires-clause-line : goal.first_of-requires-clause-line
 first_of-requires-clause-line c = record { station = c.requires.station; position = c.requires.position }

@@ -8,7 +8,7 @@ use Rattle.long_steps.proofs.Passed.{first_is, entering_is}
 use Rattle.long_steps.proofs.search.entering_row.Goals as goal
 
 pub movers-requires : goal.movers-requires
-movers-requires c = record { station = c.requires.station; position = c.requires.leave.leaving.leaving.position }
+movers-requires c = record { line = record { station = c.requires.station; position = c.requires.leave.leaving.leaving.position } }
 
 pub entering-requires-clause-descent : goal.entering-requires-clause-descent
 entering-requires-clause-descent c =

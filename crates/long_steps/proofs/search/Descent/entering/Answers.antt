@@ -16,7 +16,7 @@ loop-end-init c =
 
 pub pass-requires-clause-mover : goal.pass-requires-clause-mover
 pass-requires-clause-mover c =
-    first_mover c.args.self.now c.requires.descent.line c.loop-end.heap c.loop-end.end c.loop-end.invariant.passing c.loop-end-test.true c.index-heap-0.result c.index-heap-0.is
+    rw (← c.index-heap-0.is) (first_mover c.args.self.now c.requires.descent.line c.loop-end.heap c.loop-end.end c.loop-end.invariant.passing c.loop-end-test.true c.index-heap-0.result c.index-heap-0.is)
 
 pub returns-then-not-is_negative : goal.returns-then-not-is_negative
 returns-then-not-is_negative c =
@@ -24,7 +24,7 @@ returns-then-not-is_negative c =
     let next = c.in_ok-next.next in
     let above : pos 0 ≤ℤ next = search rules in
     first_enters d c.requires.descent.line c.loop-end.heap c.loop-end.end c.loop-end.invariant.passing c.loop-end-test.true c.index-heap-0.result c.index-heap-0.is
-    (number_value d c.loop-end.slope) (number_value d next) c.loop-end.invariant.slope c.loop-end.invariant.negative (c.in_ok-next.ensures {u = tt}) (slope_above d c.requires.descent next above)
+    (number_value d c.loop-end.slope) (number_value d next) c.loop-end.invariant.slope c.loop-end.invariant.negative (rw (← c.index-heap-0.is) at (c.in_ok-next.ensures {u = tt})) (slope_above d c.requires.descent next above)
 
 pub loop-end-preserved : goal.loop-end-preserved
 loop-end-preserved c =
@@ -39,7 +39,7 @@ loop-end-preserved c =
     record {
       passing = passing_next d c.requires.descent.line heap end c.loop-end.invariant.passing c.loop-end-test.true c.pop.new.heap (end - 1) size before popped.popped popped.movers popped.heap;
       slope = first_next d c.requires.descent.line heap end c.loop-end.invariant.passing c.loop-end-test.true c.index-heap-0.result c.index-heap-0.is c.pop.new.heap (end - 1) size before popped.popped
-          (number_value d c.loop-end.slope) (number_value d next) c.loop-end.invariant.slope (c.in_ok-next.ensures {u = tt});
+          (number_value d c.loop-end.slope) (number_value d next) c.loop-end.invariant.slope (rw (← c.index-heap-0.is) at (c.in_ok-next.ensures {u = tt}));
       negative = slope_below d c.requires.descent next below;
     }
 
