@@ -1,5 +1,5 @@
 -- The coordinate of the row that was read.
-use Rattle.std.proofs.Common.{◌≡◌, length, sym, ap, ◌∙◌}
+use Rattle.std.proofs.Common.{◌≡◌, ℤ, length, ap, ◌∙◌}
 use Rattle.whole_inverse.specs.Squares.{inverse_of}
 use Rattle.whole_rows.specs.declared.rows.WholeRow.{WholeRow}
 use Rattle.whole_rows.proofs.Entering.{coordinate_read}
