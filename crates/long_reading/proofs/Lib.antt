@@ -1,3 +1,4 @@
 mod Numbers
 pub mod Factors
 pub mod Losses
+pub mod Unscaled

@@ -50,13 +50,10 @@ some_size (pos (suc n)) some = omega arith
 some_size (negsuc n) some = omega arith
 
 pub plus_size : (d : ℤ) → int_lt d (pos 0) ≡ false → pos (unsigned_abs d) ≡ d
-plus_size (pos n) h = refl
-plus_size (negsuc n) h = absurd (cc h)
+plus_size d h = omega (arith, ints, h)
 
 pub minus_size : (d : ℤ) → int_lt d (pos 0) ≡ true → pos (unsigned_abs d) ≡ neg_ℤ d
-minus_size (pos zero) h = absurd (cc h)
-minus_size (pos (suc n)) h = absurd (cc h)
-minus_size (negsuc n) h = refl
+minus_size d h = omega (arith, ints, h)
 
 -- what stands below isn't 0, where the factor isn't
 pub some_under : (o u : ℤ) (d s : ℕ) → 1 ≤ d → 1 ≤ s → share o u ≢ whole (pos 0) → (o *ℤ (pos d *ℤ pos s)) ≢ pos 0

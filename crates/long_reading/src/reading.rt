@@ -20,7 +20,12 @@ pub struct LongReading<'a> {
 
 impl<'a> LongReading<'a> {
     // The numerator over the denominator and that of theta.
-    fn joined(&self, alloc: Global, constant: &Integer, linear: &Integer) -> Result<Integer, OutOfMemory>
+    fn joined(
+        &self,
+        alloc: Global,
+        constant: &Integer,
+        linear: &Integer,
+    ) -> Result<Integer, OutOfMemory>
         ensures { IfOk result (λ n. n ≡ (constant.now *ℤ pos self.now.theta.now.den) +ℤ (linear.now *ℤ self.now.theta.now.num)) }
     {
         let first = constant.times(alloc, self.theta.denominator())?;
@@ -39,7 +44,12 @@ impl<'a> LongReading<'a> {
     }
 
     /// `constant + linear * theta` over the denominator, divided by the factor.
-    pub fn number(&self, alloc: Global, constant: &Integer, linear: &Integer) -> Result<Ratio, OutOfMemory>
+    pub fn number(
+        &self,
+        alloc: Global,
+        constant: &Integer,
+        linear: &Integer,
+    ) -> Result<Ratio, OutOfMemory>
         requires denominator { 1 ≤ self.now.denominator.now }
         requires factor { rational self.now.factor.now ≢ whole (pos 0) }
         ensures { IfOk result (λ r. rational r ≡ number_at_theta self.now constant.now linear.now) }

@@ -1,7 +1,6 @@
 -- The products over all that stands below.
-use Rattle.std.proofs.Common.{rules, ◌≡◌, ◌≢◌, ◌≤◌, ◌+ℤ◌, ◌*ℤ◌, pos, ap, ap₂, ◌∙◌, arith}
+use Rattle.std.proofs.Common.{rules, ◌≡◌, ◌≢◌, ◌≤◌, ◌+ℤ◌, ◌*ℤ◌, pos, ◌∙◌, arith}
 use Rattle.std.proofs.lemmas.Int.{ints}
-use Rattle.rational_laws.specs.Fraction.{rational}
 use Rattle.long_reading.proofs.Numbers.{affine_over, some_under}
 use Rattle.long_reading.proofs.reading.LongReading.number.Goals as goal
 
