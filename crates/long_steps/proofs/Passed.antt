@@ -1,5 +1,5 @@
 -- The rows that are passed, and those that are left in the heap.
-use Rattle.std.specs.Prelude.{◌≡◌, ◌≢◌, ◌⊎◌, ℕ, suc, ℤ, ◌+◌, ◌-◌, ◌+ℤ◌, ◌*ℤ◌, ◌<◌, ◌≤◌, ◌<ℤ◌, ◌≤ℤ◌, unsigned_abs, Bool, true, false, ◌==◌, if◌then◌else◌, List, length, get_or, [], ◌∷◌, pos}
+use Rattle.std.specs.Prelude.{◌≡◌, ◌≢◌, ◌⊎◌, ℕ, suc, ℤ, ◌-◌, ◌+ℤ◌, ◌*ℤ◌, ◌<◌, ◌≤◌, ◌<ℤ◌, ◌≤ℤ◌, unsigned_abs, Bool, true, false, ◌==◌, if◌then◌else◌, List, length, get_or, [], ◌∷◌, pos}
 use Rattle.std.proofs.Common.{arith, refl, sym, ap, ap₂, subst, ◌∙◌, inl, inr}
 use Rattle.std.proofs.lemmas.Bool.{cases_lt}
 use Rattle.std.proofs.lemmas.Int.{ints}
@@ -20,7 +20,6 @@ use Rattle.pivot_model.proofs.Passing.{passed}
 use Rattle.whole_rows.specs.declared.rows.WholeRow.{WholeRow}
 use Rattle.whole_solution.proofs.Reading.{row_read}
 use Rattle.whole_steps.proofs.Scales.{weighed_share, scale_positive, share-sum, share_negative, share_not_negative}
-use Rattle.long_steps.specs.declared.line.Line.{Line}
 use Rattle.long_steps.specs.declared.line.Mover.{Mover}
 use Rattle.long_steps.specs.declared.search.Descent.{Descent}
 use Rattle.long_steps.specs.Heaps.{IsHeapFrom, IsPopped}
@@ -226,6 +225,10 @@ module _ (d : Descent) where
 
     pub first_mover : IsMover d.line m
     first_mover = first_read.0
+
+    -- as it was read once more
+    pub first_row : (n : Mover) → n ≡ get_or xs 0 n → m.row ≡ n.row
+    first_row n again = sym first_read.1 ∙ (item_read d.line xs h.movers 0 n (omega (arith, some, h.within)) again).1
 
     pub first_enters : (s next : ℚ) → s ≡ slope_after xs end → s <ℚ whole (pos 0) → next ≡ s +ℚ passing_of d m.row → whole (pos 0) ≤ℚ next → Enters d m.row
     first_enters s next e negative sum above =

@@ -1,5 +1,5 @@
 -- The order of perturbed ratios, by the first entries or by all.
-use Rattle.std.specs.Prelude.{◌≡◌, ◌≢◌, ◌↔◌, ℕ, suc, ℤ, ◌*◌, ◌*ℤ◌, ◌+◌, ◌<◌, ◌≤◌, ◌≤ℤ◌, Bool, true, false, not, IsTrue, [], ◌∷◌, get_or, length, pos}
+use Rattle.std.specs.Prelude.{◌≡◌, ◌≢◌, ◌↔◌, ℕ, suc, ℤ, ◌*◌, ◌*ℤ◌, ◌+◌, ◌<◌, ◌≤◌, Bool, true, false, not, IsTrue, [], ◌∷◌, get_or, length, pos}
 use Rattle.std.specs.Ordering.{is_lt, is_eq, is_ne, nat_cmp, int_cmp}
 use Rattle.std.specs.declared.cmp.Ordering.{Ordering}
 use Rattle.std.specs.declared.cmp.Ordering.TheVariants.{Less, Equal, Greater}

@@ -7,9 +7,9 @@ use Rattle.loss_model.specs.Spill.{abs_ℚ}
 use Rattle.basis_model.specs.Perturbed.{ratio}
 use Rattle.basis_model.specs.Basis.{coord, coefficient, outside_row}
 use Rattle.pivot_model.specs.Steps.{moves, is_before}
-use Rattle.walk_model.specs.Walks.{IsFirstMover}
 use Rattle.whole_inverse.specs.Shares.{share}
-use Rattle.long_solution.specs.Stations.{IsLongStation, model as station_model, at_of as station_at, inverse_at as station_inverse, over_of as station_over}
+use Rattle.long_solution.specs.Stations.{IsLongStation, model as station_model, at_of as station_at}
+use Rattle.long_solution.specs.Stations.{inverse_at as station_inverse, over_of as station_over}
 use Rattle.long_steps.specs.declared.line.Line.{Line}
 use Rattle.long_steps.specs.declared.line.Mover.{Mover}
 

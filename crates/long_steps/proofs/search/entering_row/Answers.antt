@@ -1,8 +1,7 @@
 -- The line of the position, along which the loss falls.
-use Rattle.std.proofs.Common.{refl, sym, ap, subst, ◌∙◌}
+use Rattle.std.proofs.Common.{ap, ◌∙◌}
 use Rattle.long_steps.specs.declared.line.Line.{Line}
 use Rattle.long_steps.specs.declared.search.Descent.{Descent}
-use Rattle.long_steps.specs.Lines.{AreMovers}
 use Rattle.long_steps.specs.Descents.{number_value}
 use Rattle.long_steps.proofs.Passed.{first_is, entering_is}
 use Rattle.long_steps.proofs.search.entering_row.Goals as goal

@@ -5,7 +5,7 @@ use Rattle.long_steps.proofs.Moving.{below_none, all_rows}
 use Rattle.long_steps.proofs.line.Line.movers.Goals as goal
 
 pub loop-row-init : goal.loop-row-init
-loop-row-init c = below_none c.args.self.now
+loop-row-init c = rw (c.new-found.ensures) (below_none c.args.self.now)
 
 pub offer-requires-clause-row : goal.offer-requires-clause-row
 offer-requires-clause-row c =

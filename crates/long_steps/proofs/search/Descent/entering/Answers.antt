@@ -1,6 +1,6 @@
-use Rattle.std.proofs.Common.{rules, ◌≡◌, ◌<◌, ◌-◌, suc, length, refl, arith, pos, ◌≤ℤ◌, ◌<ℤ◌}
-use Rattle.long_steps.specs.Descents.{number_value}
-use Rattle.long_steps.proofs.Passed.{begun, slope_begun, negative_begun, slope_below, slope_above, first_mover, first_enters, first_next, passing_next, exhausted}
+use Rattle.std.proofs.Common.{rules, ◌≡◌, ◌-◌, suc, length, refl, arith, pos, ◌≤ℤ◌, ◌<ℤ◌, subst}
+use Rattle.long_steps.specs.Descents.{Enters, number_value}
+use Rattle.long_steps.proofs.Passed.{begun, slope_begun, negative_begun, slope_below, slope_above, first_mover, first_row, first_enters, first_next, passing_next, exhausted}
 use Rattle.long_steps.proofs.search.Descent.entering.Goals as goal
 
 pub loop-end-init : goal.loop-end-init
@@ -23,8 +23,11 @@ returns-then-not-is_negative c =
     let d = c.args.self.now in
     let next = c.in_ok-next.next in
     let above : pos 0 ≤ℤ next = search rules in
-    first_enters d c.requires.descent.line c.loop-end.heap c.loop-end.end c.loop-end.invariant.passing c.loop-end-test.true c.index-heap-0.result c.index-heap-0.is
-    (number_value d c.loop-end.slope) (number_value d next) c.loop-end.invariant.slope c.loop-end.invariant.negative (rw (← c.index-heap-0.is) at (c.in_ok-next.ensures {u = tt})) (slope_above d c.requires.descent next above)
+    let again = c.index-heap-0-then-not-is_negative in
+    rw (← again.is)
+    (subst (Enters d) (first_row d c.requires.descent.line c.loop-end.heap c.loop-end.end c.loop-end.invariant.passing c.loop-end-test.true c.index-heap-0.result c.index-heap-0.is again.result again.is)
+    (first_enters d c.requires.descent.line c.loop-end.heap c.loop-end.end c.loop-end.invariant.passing c.loop-end-test.true c.index-heap-0.result c.index-heap-0.is
+    (number_value d c.loop-end.slope) (number_value d next) c.loop-end.invariant.slope c.loop-end.invariant.negative (rw (← c.index-heap-0.is) at (c.in_ok-next.ensures {u = tt})) (slope_above d c.requires.descent next above)))
 
 pub loop-end-preserved : goal.loop-end-preserved
 loop-end-preserved c =
