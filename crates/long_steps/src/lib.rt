@@ -16,9 +16,10 @@
 //!
 //! `long_tableau` calls it so:
 //! ```text
-//! let step = solving_step(self.alloc(), &station, theta, columns)?;
+//! let station = LongStation { basis: &held, solution };
+//! let step = solving_step(self.alloc(), &station, theta, self.problem().columns)?;
 //!
-//! let step = walking_step(self.alloc(), &station, hi, columns)?;
+//! let step = walking_step(self.alloc(), &station, hi, self.problem().columns)?;
 //! ```
 #![tactic(auto)]
 

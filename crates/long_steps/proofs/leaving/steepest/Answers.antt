@@ -1,5 +1,5 @@
 -- Over no position no slope is negative; over some the least one tells.
-use Rattle.std.proofs.Common.{rules, ◌≡◌, ◌≤ℤ◌, ◌<ℤ◌, pos, arith, length}
+use Rattle.std.proofs.Common.{rules, ◌≡◌, ◌≤ℤ◌, ◌<ℤ◌, pos, arith}
 use Rattle.long_steps.proofs.LeastSlopes.{leaves_at, none_leaves}
 use Rattle.long_steps.proofs.leaving.steepest.Goals as goal
 
