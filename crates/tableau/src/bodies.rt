@@ -202,7 +202,7 @@ impl<'a, F: Exact> Tableau<'a, F> {
     /// The basis by position, and the inverse of its rows. Whole numbers refuse where an entry of it is too wide
     /// for a fraction; those of any size have no such inverse.
     pub fn into_parts(self) -> Result<(Basis, Inverse<F>), Failure<F>>
-        requires body { (place_of F.value self.entry).task.body ≢ in_long }
+        requires body { (place_of F.value self).task.body ≢ in_long }
         ensures taken { IfOk result (λ parts. IsTaken F.value (place_of F.value self.entry) parts.0.rows parts.1) }
         ensures body { IfErr result (λ e. (place_of F.value self.entry).task.body ≡ in_wholes) }
         ensures refused { (asked : Question) → IfErr result (IsRefusedOf (IsRefusalAt F.value F.range (place_of F.value self.entry) asked)) }

@@ -4,7 +4,7 @@ ghost use Rattle.rational_laws.specs.Fraction.{rational};
 ghost use Rattle.rational_laws.specs.Rational.{◌*ℚ◌, inverse, whole};
 ghost use Rattle.tableau_model.specs.Standing.{AreCoefficients};
 ghost use Rattle.wide_int.specs.Numbers.{number_of};
-ghost use Rattle.whole_inverse.specs.Shares.{share};
+ghost use Rattle.whole_inverse.specs.Shares.{share, share_at};
 ghost use Rattle.whole_inverse.specs.Squares.{inverse_of};
 ghost use Rattle.whole_rows.specs.Wholes.{factor_at, factor_value};
 ghost use Rattle.whole_solution.specs.Standing.{IsWholeSolution};
@@ -103,7 +103,7 @@ impl<'a, F: Exact> WholeTableau<'a, F> {
     ) -> Result<Ratio, Obstacle>
         requires column { k < length solution.now.coef }
         requires response { rational response.now ≢ whole (pos 0) }
-        ensures { IfOk result (λ r. rational r ≡ (share (slice_index solution.now.coef k) self.now.square.determinant *ℚ inverse (rational response.now)) *ℚ factor_at self.now.setting.wholes.factors k) }
+        ensures { IfOk result (λ r. rational r ≡ (share_at self.now.square.determinant solution.now.coef k *ℚ inverse (rational response.now)) *ℚ factor_at self.now.setting.wholes.factors k) }
     {
         let alloc = self.alloc();
         let share = long_share(alloc, solution.coef.as_slice()[k], self.determinant())?;
