@@ -1,5 +1,5 @@
 //! The line search: the rows that move are passed until the slope is no longer negative.
-ghost use Rattle.std.specs.Prelude.{◌≡◌, ◌<◌, length, IfOk};
+ghost use Rattle.std.specs.Prelude.{◌≡◌, IfOk};
 ghost use Rattle.rational_laws.specs.Rational.{◌+ℚ◌};
 ghost use Rattle.long_solution.specs.Stations.{IsLongStation};
 ghost use Rattle.long_steps.specs.Lines.{IsMover, AreMovers};
