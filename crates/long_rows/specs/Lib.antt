@@ -1,0 +1,4 @@
+pub mod Scaling
+pub mod Longs
+pub mod Reached
+pub mod Starts
