@@ -17,7 +17,7 @@ impl<'a, F: Exact> LongTableau<'a, F> {
     /// The solving step at theta that is left, or none where no slope is negative.
     pub fn solving_step(&self, theta: &Ratio) -> Result<Option<Step>, OutOfMemory>
         requires costs { HasCosts (sample F.value self.now.problem) (rational theta.now) }
-        ensures step { IfOk result (IsSolvingAnswer F.value (place F.value self.now) (rational theta.now)) }
+        ensures { IfOk result (IsSolvingAnswer F.value (place F.value self.now) (rational theta.now)) }
     {
         let solution = self.solution();
         let held = self.held();

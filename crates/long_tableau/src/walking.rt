@@ -18,7 +18,7 @@ impl<'a, F: Exact> LongTableau<'a, F> {
     pub fn walking_step(&self, from: &Ratio, hi: &Ratio) -> Result<Option<WalkingStep>, OutOfMemory>
         requires costs { HasCosts (sample F.value self.now.problem) (rational hi.now) }
         requires optimal { IsOptimalFrom F.value (place F.value self.now) (rational from.now) }
-        ensures step { IfOk result (IsWalkingAnswer F.value (place F.value self.now) (rational from.now) (rational hi.now)) }
+        ensures { IfOk result (IsWalkingAnswer F.value (place F.value self.now) (rational from.now) (rational hi.now)) }
     {
         if !from.compare(self.alloc(), hi)?.is_lt() {
             return Ok(None);

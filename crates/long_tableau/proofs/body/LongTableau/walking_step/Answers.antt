@@ -27,13 +27,13 @@ walking_step-requires-clause-station g c =
 pub walking_step-requires-clause-costs : goal.walking_step-requires-clause-costs
 walking_step-requires-clause-costs g c =
     let held = c.held-held.ensures in
-    let t : LongStation = record { basis = record { ref_ptr = (0, 0); now = c.held-held.result }; solution = c.solution-solution.result } in
+    let t : LongStation = record { basis = record { ref_ptr = (c.held-1.given, 0); now = c.held-held.result }; solution = c.solution-solution.result } in
     costs_are g.F.Exact.value c.args.self.now held.kept t (is_station g.F.Exact.value c.args.self.now held.kept t held.rows held.at held.inverse held.basis c.solution-solution.ensures.solution) (rational c.args.hi.now) c.requires.costs
 
 pub walking_step-requires-clause-columns : goal.walking_step-requires-clause-columns
 walking_step-requires-clause-columns g c =
     let held = c.held-held.ensures in
-    let t : LongStation = record { basis = record { ref_ptr = (0, 0); now = c.held-held.result }; solution = c.solution-solution.result } in
+    let t : LongStation = record { basis = record { ref_ptr = (c.held-1.given, 0); now = c.held-held.result }; solution = c.solution-solution.result } in
     rw (c.problem.ensures) (columns_are g.F.Exact.value c.args.self.now held.kept t (is_station g.F.Exact.value c.args.self.now held.kept t held.rows held.at held.inverse held.basis c.solution-solution.ensures.solution))
 
 pub returns : goal.returns
@@ -41,6 +41,6 @@ returns g c =
     let value = g.F.Exact.value in
     let k = c.args.self.now in
     let held = c.held-held.ensures in
-    let t : LongStation = record { basis = record { ref_ptr = (0, 0); now = c.held-held.result }; solution = c.solution-solution.result } in
+    let t : LongStation = record { basis = record { ref_ptr = (c.held-1.given, 0); now = c.held-held.result }; solution = c.solution-solution.result } in
     walking_is value k held.kept t (is_station value k held.kept t held.rows held.at held.inverse held.basis c.solution-solution.ensures.solution) (rational c.args.from.now) (rational c.args.hi.now)
     c.requires.optimal c.in_ok-step.step (c.in_ok-step.ensures {u = tt})
