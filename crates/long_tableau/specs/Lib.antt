@@ -1,2 +1,4 @@
 pub mod Kept
 pub mod Stations
+pub mod Values
+pub mod Ends

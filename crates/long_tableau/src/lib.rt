@@ -16,8 +16,11 @@
 #![tactic(auto)]
 
 mod body;
+mod ends;
+mod last;
 mod setting;
 mod solving;
+mod vertex;
 mod walking;
 
 pub use body::LongTableau;
