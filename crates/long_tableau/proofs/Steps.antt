@@ -1,6 +1,6 @@
 -- The steps at the basis that is kept are those of the problem.
-use Rattle.std.specs.Prelude.{◌≡◌, ℕ, ◌<◌, slice_index, Option, Some, None}
-use Rattle.std.proofs.Common.{sym, ap, subst, ◌∙◌}
+use Rattle.std.specs.Prelude.{◌<◌, slice_index, Option, Some, None}
+use Rattle.std.proofs.Common.{subst}
 use Rattle.rational_laws.specs.Fraction.{Fraction, rational}
 use Rattle.rational_laws.specs.Rational.{ℚ}
 use Rattle.loss_model.specs.Problem.{sample}
@@ -29,23 +29,23 @@ module _ {F : Type 0} (value : F → Fraction) (k : Kept F) (h : IsKept value k)
   pub solving_is : (theta : ℚ) (o : Option Step) → IsSolvingOrNone t theta o → IsSolvingAnswer value (place value k) theta o
   solving_is theta None none =
       slopes_back (sample value k.problem) (wholes_of k) (factor_at k.setting.wholes.factors) (factor_value k.setting.wholes.response) (factor_value k.setting.wholes.cost) h.setting.scaled (inverse_of k.square) (slice_index k.rows)
-      (rows_within value k h) h.setting.response h.setting.cost theta (carried value k h t is.rows is.at is.inverse (λ p at a d. HasNoNegativeSlope p at a theta) none)
+      (rows_within value k h) h.setting.response h.setting.cost theta (carried value k h t is.held (λ p at a d. HasNoNegativeSlope p at a theta) none)
   solving_is theta (Some x) step =
       solving_step_back (sample value k.problem) (wholes_of k) (factor_at k.setting.wholes.factors) (factor_value k.setting.wholes.response) (factor_value k.setting.wholes.cost) h.setting.scaled (inverse_of k.square) (slice_index k.rows)
-      (rows_within value k h) h.setting.response h.setting.cost theta x.position x.row (carried value k h t is.rows is.at is.inverse (λ p at a d. IsSolvingStep p at a theta x.position x.row) step)
+      (rows_within value k h) h.setting.response h.setting.cost theta x.position x.row (carried value k h t is.held (λ p at a d. IsSolvingStep p at a theta x.position x.row) step)
 
   pub walking_is : (from hi : ℚ) → IsOptimalFrom value (place value k) from → (o : Option WalkingStep) → IsWalkingOrNone t hi o → IsWalkingAnswer value (place value k) from hi o
   walking_is from hi stop None past =
       λ u j r step. below_from u hi step.within
       (past u j step.direction (subst (λ n. j < n) (columns_are value k h t is) step.break.position)
-      (returned value k h t is.rows is.at is.inverse (λ p at a d. Crosses (over_quantiles p) at a u j step.direction)
+      (returned value k h t is.held (λ p at a d. Crosses (over_quantiles p) at a u j step.direction)
       (crosses_there (sample value k.problem) (wholes_of k) (factor_at k.setting.wholes.factors) (factor_value k.setting.wholes.response) (factor_value k.setting.wholes.cost) h.setting.scaled (inverse_of k.square) (slice_index k.rows)
       (rows_within value k h) h.setting.response h.setting.cost u j step.direction step.break.position step.break.crosses)))
   walking_is from hi stop (Some x) below =
       let next = next_back (sample value k.problem) (wholes_of k) (factor_at k.setting.wholes.factors) (factor_value k.setting.wholes.response) (factor_value k.setting.wholes.cost) h.setting.scaled (inverse_of k.square) (slice_index k.rows)
       (rows_within value k h) h.setting.response h.setting.cost from (rational x.theta) x.position below.direction
-      (carried value k h t is.rows is.at is.inverse (λ p at a d. IsNextBreak (over_quantiles p) at a from (rational x.theta) x.position below.direction)
-      (below.next from (returned value k h t is.rows is.at is.inverse (λ p at a d. IsOptimalIn (over_quantiles p) at a from)
+      (carried value k h t is.held (λ p at a d. IsNextBreak (over_quantiles p) at a from (rational x.theta) x.position below.direction)
+      (below.next from (returned value k h t is.held (λ p at a d. IsOptimalIn (over_quantiles p) at a from)
       (optimal_there (sample value k.problem) (wholes_of k) (factor_at k.setting.wholes.factors) (factor_value k.setting.wholes.response) (factor_value k.setting.wholes.cost) h.setting.scaled (inverse_of k.square) (slice_index k.rows)
       (rows_within value k h) h.setting.response h.setting.cost from stop)))) in
       record {
@@ -54,5 +54,5 @@ module _ {F : Type 0} (value : F → Fraction) (k : Kept F) (h : IsKept value k)
         within = (below_test (rational x.theta) hi).1 below.below;
         entering = first_mover_back (sample value k.problem) (wholes_of k) (factor_at k.setting.wholes.factors) (factor_value k.setting.wholes.response) (factor_value k.setting.wholes.cost) h.setting.scaled (inverse_of k.square)
             (slice_index k.rows) (rows_within value k h) h.setting.response h.setting.cost x.position below.direction x.row next.position
-            (carried value k h t is.rows is.at is.inverse (λ p at a d. IsFirstMover p at a x.position below.direction x.row) below.entering);
+            (carried value k h t is.held (λ p at a d. IsFirstMover p at a x.position below.direction x.row) below.entering);
       }

@@ -8,15 +8,16 @@ ghost use Rattle.basis_model.specs.Basis.{coord};
 ghost use Rattle.tableau_model.specs.Places.{IsPlace};
 ghost use Rattle.whole_inverse.specs.Squares.{inverse_of};
 ghost use Rattle.whole_rows.specs.Wholes.{sample_of_rows};
-ghost use Rattle.long_rows.specs.Longs.{IsLongStart};
-ghost use Rattle.long_solution.specs.Standing.{IsLongBasis, IsLongSolution};
+ghost use Rattle.long_rows.specs.Starts.{IsLongStart};
+ghost use Rattle.long_solution.specs.Standing.{IsLongSolution};
 ghost use Rattle.long_tableau.specs.Kept.{IsSetting, IsKept, IsMoved, IsNext, place, wholes_of};
+ghost use Rattle.long_tableau.specs.Stations.{IsHeld, IsStationOf};
 
 use crate::setting::LongSetting;
 use frac_core::{Exact, List, OutOfMemory};
 use long_inverse::LongInverse;
 use long_rows::{LongHalt, LongStart, long_start};
-use long_solution::{LongBasis, LongSolution};
+use long_solution::{LongBasis, LongSolution, LongStation};
 use loss_model::{Basis, Problem, Stop};
 use natural::Natural;
 use std::alloc::Global;
@@ -175,10 +176,7 @@ impl<'a, F: Exact> LongTableau<'a, F> {
     /// The basis in whole numbers, with its inverse.
     pub fn held(&self) -> LongBasis<'_>
         ensures kept { IsKept F.value self.now }
-        ensures basis { IsLongBasis result }
-        ensures rows { result.rows.now ≡ self.now.setting.wholes.rows }
-        ensures at { result.basis.now.rows ≡ self.now.rows }
-        ensures inverse { result.inverse.now ≡ self.now.square }
+        ensures held { IsHeld self.now result }
     {
         LongBasis {
             rows: self.setting.wholes.rows.as_slice(),
@@ -194,6 +192,18 @@ impl<'a, F: Exact> LongTableau<'a, F> {
         ensures solution { IsLongSolution (wholes_of self.now) (slice_index self.now.rows) (inverse_of self.now.square) self.now.square.determinant result.now }
     {
         &self.solution
+    }
+
+    /// The basis with what stands there.
+    pub(crate) fn station<'b>(&'b self, held: &'b LongBasis<'b>) -> LongStation<'b>
+        requires held { IsHeld self.now held.now }
+        ensures kept { IsKept F.value self.now }
+        ensures station { IsStationOf self.now result }
+    {
+        LongStation {
+            basis: held,
+            solution: &self.solution,
+        }
     }
 
     /// The basis after a row has taken a position at which its coordinate isn't 0, and the inverse of its rows.

@@ -8,7 +8,6 @@ ghost use Rattle.long_tableau.specs.Kept.{place};
 
 use crate::body::LongTableau;
 use frac_core::{Exact, OutOfMemory};
-use long_solution::LongStation;
 use long_steps::solving_step;
 use ratio::Ratio;
 use tableau_model::Step;
@@ -19,12 +18,8 @@ impl<'a, F: Exact> LongTableau<'a, F> {
         requires costs { HasCosts (sample F.value self.now.problem) (rational theta.now) }
         ensures { IfOk result (IsSolvingAnswer F.value (place F.value self.now) (rational theta.now)) }
     {
-        let solution = self.solution();
         let held = self.held();
-        let station = LongStation {
-            basis: &held,
-            solution,
-        };
+        let station = self.station(&held);
         let step = solving_step(self.alloc(), &station, theta, self.problem().columns)?;
         Ok(step)
     }

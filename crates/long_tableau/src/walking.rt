@@ -8,7 +8,6 @@ ghost use Rattle.long_tableau.specs.Kept.{place};
 
 use crate::body::LongTableau;
 use frac_core::{Exact, OutOfMemory};
-use long_solution::LongStation;
 use long_steps::walking_step;
 use ratio::Ratio;
 use tableau_model::WalkingStep;
@@ -23,12 +22,8 @@ impl<'a, F: Exact> LongTableau<'a, F> {
         if !from.compare(self.alloc(), hi)?.is_lt() {
             return Ok(None);
         }
-        let solution = self.solution();
         let held = self.held();
-        let station = LongStation {
-            basis: &held,
-            solution,
-        };
+        let station = self.station(&held);
         let step = walking_step(self.alloc(), &station, hi, self.problem().columns)?;
         Ok(step)
     }

@@ -1,6 +1,5 @@
 -- The start of the whole rows is that of the problem.
-use Rattle.std.specs.Prelude.{All}
-use Rattle.std.proofs.Common.{◌≡◌, ◌<◌, ◌^◌, length, arith}
+use Rattle.std.proofs.Common.{◌<◌, ◌^◌, length, arith}
 use Rattle.whole_rows.specs.Wholes.{factor_at, factor_value}
 use Rattle.whole_rows.proofs.Started.{greedy_back}
 use Rattle.long_tableau.proofs.Places.{is_long_basis}

@@ -8,32 +8,37 @@ use Rattle.long_tableau.proofs.body.LongTableau.moved.Goals as goal
 
 pub exchanged-requires-clause-size : goal.exchanged-requires-clause-size
 exchanged-requires-clause-size g c =
-    let held = c.held-held.ensures in
-    let wide = row_wide g.F.Exact.value c.args.self.now held.kept _ held.rows c.args.step.row c.requires.row _ c.index-rows-step.is in
-    rw (c.as_slice-x.ensures) (wide ∙ sym (ap (λ (s : WholeSquare). length s.columns) held.inverse ∙ held.kept.square))
+    let kept = c.held-held.ensures.kept in
+    let held = c.held-held.ensures.held in
+    let wide = row_wide g.F.Exact.value c.args.self.now kept _ held.rows c.args.step.row c.requires.row _ c.index-rows-step.is in
+    rw (c.as_slice-x.ensures) (wide ∙ sym (ap (λ (s : WholeSquare). length s.columns) held.inverse ∙ kept.square))
 
 pub exchanged-requires-clause-within : goal.exchanged-requires-clause-within
 exchanged-requires-clause-within g c =
-    let held = c.held-held.ensures in
-    let wide = row_wide g.F.Exact.value c.args.self.now held.kept _ held.rows c.args.step.row c.requires.row _ c.index-rows-step.is in
+    let kept = c.held-held.ensures.kept in
+    let held = c.held-held.ensures.held in
+    let wide = row_wide g.F.Exact.value c.args.self.now kept _ held.rows c.args.step.row c.requires.row _ c.index-rows-step.is in
     rw (c.as_slice-x.ensures, wide) c.requires.position
 
 pub exchanged-requires-clause-some : goal.exchanged-requires-clause-some
 exchanged-requires-clause-some g c =
-    let held = c.held-held.ensures in
+    let kept = c.held-held.ensures.kept in
+    let held = c.held-held.ensures.held in
     rw (c.as_slice-x.ensures, held.inverse)
-    (row_some g.F.Exact.value c.args.self.now held.kept _ held.rows c.args.step.row c.requires.row _ c.index-rows-step.is c.args.step.position c.requires.some)
+    (row_some g.F.Exact.value c.args.self.now kept _ held.rows c.args.step.row c.requires.row _ c.index-rows-step.is c.args.step.position c.requires.some)
 
 pub replace-requires : goal.replace-requires
 replace-requires g c =
-    let held = c.held-held.ensures in
-    rw (c.in_ok-taken.ensures {u = tt}, c.as_slice.ensures, held.at, held.kept.size) c.requires.position
+    let kept = c.held-held.ensures.kept in
+    let held = c.held-held.ensures.held in
+    rw (c.in_ok-taken.ensures {u = tt}, c.as_slice.ensures, held.at, kept.size) c.requires.position
 
 pub returns : goal.returns
 returns g c =
     let k = c.args.self.now in
-    let held = c.held-held.ensures in
-    let h = held.kept in
+    let kept = c.held-held.ensures.kept in
+    let held = c.held-held.ensures.held in
+    let h = kept in
     let i = c.args.step.row in
     let j = c.args.step.position in
     let r = c.index-rows-step.result in

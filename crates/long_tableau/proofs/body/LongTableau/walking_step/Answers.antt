@@ -5,9 +5,8 @@ use Rattle.rational_laws.specs.Fraction.{rational}
 use Rattle.loss_model.specs.Problem.{sample}
 use Rattle.tableau_model.proofs.Tests.{not_below_by}
 use Rattle.tableau_model.proofs.Steps.{none_behind}
-use Rattle.long_solution.specs.declared.station.LongStation.{LongStation}
 use Rattle.long_tableau.specs.Kept.{place}
-use Rattle.long_tableau.proofs.Stations.{is_station, columns_are, costs_are}
+use Rattle.long_tableau.proofs.Stations.{columns_are, costs_are}
 use Rattle.long_tableau.proofs.Steps.{walking_is}
 use Rattle.long_tableau.proofs.body.LongTableau.walking_step.Goals as goal
 
@@ -20,27 +19,20 @@ returns-then-not-is_lt g c =
     none_behind (sample value k.problem) (slice_index k.rows) (place value k).inverse from hi (not_below_by from hi c.is_lt.result (c.is_lt.ensures ∙ ap is_lt (c.in_ok-compare.ensures {u = tt})) c.if-not-is_lt.true)
 
 pub walking_step-requires-clause-station : goal.walking_step-requires-clause-station
-walking_step-requires-clause-station g c =
-    let held = c.held-held.ensures in
-    (is_station g.F.Exact.value c.args.self.now held.kept _ held.rows held.at held.inverse held.basis c.solution-solution.ensures.solution).station
+walking_step-requires-clause-station g c = c.station-station.ensures.station.station
 
 pub walking_step-requires-clause-costs : goal.walking_step-requires-clause-costs
 walking_step-requires-clause-costs g c =
-    let held = c.held-held.ensures in
-    let t : LongStation = record { basis = record { ref_ptr = (c.held-1.given, 0); now = c.held-held.result }; solution = c.solution-solution.result } in
-    costs_are g.F.Exact.value c.args.self.now held.kept t (is_station g.F.Exact.value c.args.self.now held.kept t held.rows held.at held.inverse held.basis c.solution-solution.ensures.solution) (rational c.args.hi.now) c.requires.costs
+    let here = c.station-station.ensures in
+    costs_are g.F.Exact.value c.args.self.now here.kept c.station-station.result here.station (rational c.args.hi.now) c.requires.costs
 
 pub walking_step-requires-clause-columns : goal.walking_step-requires-clause-columns
 walking_step-requires-clause-columns g c =
-    let held = c.held-held.ensures in
-    let t : LongStation = record { basis = record { ref_ptr = (c.held-1.given, 0); now = c.held-held.result }; solution = c.solution-solution.result } in
-    rw (c.problem.ensures) (columns_are g.F.Exact.value c.args.self.now held.kept t (is_station g.F.Exact.value c.args.self.now held.kept t held.rows held.at held.inverse held.basis c.solution-solution.ensures.solution))
+    let here = c.station-station.ensures in
+    rw (c.problem.ensures) (columns_are g.F.Exact.value c.args.self.now here.kept c.station-station.result here.station)
 
 pub returns : goal.returns
 returns g c =
-    let value = g.F.Exact.value in
-    let k = c.args.self.now in
-    let held = c.held-held.ensures in
-    let t : LongStation = record { basis = record { ref_ptr = (c.held-1.given, 0); now = c.held-held.result }; solution = c.solution-solution.result } in
-    walking_is value k held.kept t (is_station value k held.kept t held.rows held.at held.inverse held.basis c.solution-solution.ensures.solution) (rational c.args.from.now) (rational c.args.hi.now)
-    c.requires.optimal c.in_ok-step.step (c.in_ok-step.ensures {u = tt})
+    let here = c.station-station.ensures in
+    walking_is g.F.Exact.value c.args.self.now here.kept c.station-station.result here.station (rational c.args.from.now) (rational c.args.hi.now) c.requires.optimal c.in_ok-step.step
+    (c.in_ok-step.ensures {u = tt})
