@@ -42,13 +42,13 @@ pub record AreMultiples (before after : Scales) : Type 0 where
 pub record AreCommon {F : Type 0} (value : F → Fraction) (before : List ℕ) (x : List F) (after : List ℕ) : Type 0 where
   pub size : length after ≡ length before
   pub some : All (λ n. 1 ≤ n) after
-  pub before : ArePaired (λ m n. m ∣ n) before after
+  pub grown : ArePaired (λ m n. m ∣ n) before after
   pub values : ArePaired (λ v n. (value v).den ∣ n) x after
 
 -- a common multiple of a number and of the denominators of the costs of a row
 pub record IsCostMultiple {F : Type 0} (value : F → Fraction) (before : ℕ) (r : Row F) (after : ℕ) : Type 0 where
   pub some : 1 ≤ after
-  pub before : before ∣ after
+  pub grown : before ∣ after
   pub costs : AreCostsCleared value r after
 
 -- the scales after one row more

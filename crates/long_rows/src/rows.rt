@@ -27,10 +27,7 @@ fn factor(alloc: Global, scale: &Natural) -> Result<Factor<Integer>, OutOfMemory
 }
 
 /// The scales of the columns as factors.
-fn column_factors(
-    alloc: Global,
-    scales: &[Natural],
-) -> Result<List<Factor<Integer>>, OutOfMemory>
+fn column_factors(alloc: Global, scales: &[Natural]) -> Result<List<Factor<Integer>>, OutOfMemory>
     ensures { IfOk result (λ made. made ≡ map whole_factor scales.now) }
 {
     let mut made = List::new(alloc);

@@ -86,11 +86,7 @@ fn with_entries<F: Exact>(
 }
 
 /// The scale of the costs with those of one row more.
-fn with_costs<F: Exact>(
-    alloc: Global,
-    cost: &Natural,
-    row: &Row<F>,
-) -> Result<Natural, OutOfMemory>
+fn with_costs<F: Exact>(alloc: Global, cost: &Natural, row: &Row<F>) -> Result<Natural, OutOfMemory>
     requires { 1 ≤ cost.now }
     ensures { IfOk result (IsCostMultiple F.value cost.now row.now) }
 {
@@ -102,11 +98,7 @@ fn with_costs<F: Exact>(
 }
 
 /// The scales with one row more.
-fn with_row<F: Exact>(
-    alloc: Global,
-    scales: &Scales,
-    row: &Row<F>,
-) -> Result<Scales, OutOfMemory>
+fn with_row<F: Exact>(alloc: Global, scales: &Scales, row: &Row<F>) -> Result<Scales, OutOfMemory>
     requires same { length scales.now.columns ≡ length row.now.x }
     requires positive { ArePositive scales.now }
     ensures { IfOk result (IsNext F.value scales.now row.now) }

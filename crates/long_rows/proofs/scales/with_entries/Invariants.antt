@@ -7,6 +7,6 @@ abbrev pub invariant-loop-k : goal.invariant-loop-k
 invariant-loop-k g l = record {
   size : length l.made ≡ l.k;
   some : All (λ n. 1 ≤ n) l.made;
-  before : ArePaired (λ m n. m ∣ n) l.columns l.made;
+  grown : ArePaired (λ m n. m ∣ n) l.columns l.made;
   values : ArePaired (λ v n. (g.F.Exact.value v).den ∣ n) l.x l.made;
 }
