@@ -1,5 +1,7 @@
 //! Rankscores, and the cross product of two of them.
-ghost use Rattle.std.specs.Prelude.{◌≡◌, ◌≢◌, IfOk, pos};
+//!
+//! A score is made in fractions of limited size, where its numbers fit there, and else in those of any size.
+ghost use Rattle.std.specs.Prelude.{◌≡◌, ◌≢◌, IfOk, IfSome, pos};
 ghost use Rattle.rational_laws.specs.Fraction.{rational};
 ghost use Rattle.rational_laws.specs.Rational.{◌+ℚ◌, ◌-ℚ◌, ◌*ℚ◌, inverse, whole};
 ghost use Rattle.rankscores.specs.Rows.{cross};
@@ -41,6 +43,33 @@ fn raised<F: Exact>(alloc: Global, dual: &Ratio, weight: F) -> Result<Ratio, Out
     raised
 }
 
+// The same fraction, where both its parts are of 127 bits.
+fn narrow_of<F: Exact>(value: &Ratio) -> Option<F>
+    ensures { IfSome result (λ r. rational (F.value r) ≡ rational value.now) }
+{
+    let size = i128::try_from(value.numerator().size().narrow()?).ok()?;
+    let under = i128::try_from(value.denominator().narrow()?).ok()?;
+    let over = if value.numerator().is_negative() {
+        -size
+    } else {
+        size
+    };
+    F::from_parts(over, under)
+}
+
+// The rankscore, where no number on the way to it is wider.
+fn narrow_score<F: Exact>(dual: &Ratio, weight: F, theta: &Ratio) -> Option<F>
+    requires { rational (F.value weight) ≢ whole (pos 0) }
+    ensures { IfSome result (λ r. rational (F.value r)
+        ≡ ((rational dual.now *ℚ inverse (rational (F.value weight))) +ℚ whole (pos 1)) -ℚ rational theta.now) }
+{
+    let dual: F = narrow_of(dual)?;
+    let theta: F = narrow_of(theta)?;
+    let share = dual.try_div(weight).ok()?;
+    let raised = share.try_add(F::one()).ok()?;
+    raised.try_sub(theta).ok()
+}
+
 /// The rankscore at theta, from a dual value and a weight.
 pub(crate) fn rankscore<F: Exact>(
     alloc: Global,
@@ -52,6 +81,10 @@ pub(crate) fn rankscore<F: Exact>(
     ensures { IfOk result (λ r. rational r
         ≡ ((rational dual.now *ℚ inverse (rational (F.value weight))) +ℚ whole (pos 1)) -ℚ rational theta.now) }
 {
+    if let Some(narrow) = narrow_score(dual, weight, theta) {
+        let score = Ratio::widen(alloc, narrow)?;
+        return Ok(score);
+    }
     let raised = raised(alloc, dual, weight)?;
     let score = raised.sub(alloc, theta);
     drop(raised);

@@ -36,6 +36,7 @@ mod intervals;
 pub mod laws;
 mod line;
 mod lines;
+mod number;
 mod page;
 mod path;
 mod predictions;

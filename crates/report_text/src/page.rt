@@ -7,6 +7,7 @@ ghost use Rattle.report_text.specs.Names.{name_bytes, name_byte, hexadecimal};
 ghost use Rattle.report_text.specs.ReportText.{numbered, row_mark};
 
 use crate::ghost_text::{GhostText, Said};
+use crate::number::write_ratio;
 use crate::sides::marks_of;
 use frac_core::{Exact, Frac128, OutOfMemory, Text};
 use itoa::Buffer;
@@ -63,7 +64,7 @@ impl Page {
         ensures { self.new ≡ self.old ++ ratio_text value.now }
     {
         if !self.is_short {
-            self.is_short = value.write(self.alloc, &mut self.bytes).is_err();
+            self.is_short = write_ratio(self.alloc, value, &mut self.bytes).is_err();
         }
         self.text = GhostText::of(&Said::Fraction(&self.text, value));
     }
