@@ -26,12 +26,12 @@ PER_PART = 64
 
 # A job on a table of 1,000 rows and 5 columns, on one with long tails, or on the certificate of the fits of the first, what it shows, and the most that it may take, in millions of instructions.
 JOBS = [
-    ("process", ["process", *WHOLE], "loops over rows are compiled for 64 bits, near rows serve while a quarter of their distance is left, and segments take over ends", 140.5),
-    ("ranks", ["ranks", "--formula", "y ~ ."], "the same, and a Wilcoxon score is reduced once", 362.5),
-    ("at 1/2", ["process", *MEDIAN], "values whose factor is 1 are copied into whole numbers, and a solve looks at rivals alone", 16.3),
+    ("process", ["process", *WHOLE], "loops over rows are compiled for 64 bits, near rows serve while a quarter of their distance is left, and segments take over ends", 287),
+    ("ranks", ["ranks", "--formula", "y ~ ."], "the same, and a Wilcoxon score is reduced once", 527),
+    ("at 1/2", ["process", *MEDIAN], "values whose factor is 1 are copied into whole numbers, and a solve looks at rivals alone", 16.4),
     ("rank intervals", ["process", *MEDIAN, "--crit", "2.7055", "--rank-at", "1/2"], "entries of the Gram matrix are added up in 128 bits", 45.5),
-    ("long tails", ["process", *WHOLE], "rows far from the middles of their columns have classes of their own", 146),
-    ("check", ["check"], "a run of segments is summed by slopes", 480),
+    ("long tails", ["process", *WHOLE], "rows far from the middles of their columns have classes of their own", 259),
+    ("check", ["check"], "a run of segments is summed by slopes", 484),
 ]
 
 

@@ -1,14 +1,22 @@
 //! Certificates as text: what each is read as, and what is written of it.
+ghost use Rattle.std.specs.Prelude.{IfOk};
+ghost use Rattle.cert_text.specs.Limits.{IsWithinLimits};
 
 use crate::notation::{bytes_of, text_of};
 use crate::told::Told;
-use cert_text::{Cert, CertFault, read_cert, write_cert};
+use cert_text::{Cert, CertFault, read_cert, read_is_within, write_cert};
 use frac_core::OutOfMemory;
 use std::alloc::Global;
 
-/// The certificate of the bytes, without what is proved of it.
-pub(crate) fn read(alloc: Global, bytes: &[u8]) -> Result<Cert, CertFault> {
-    read_cert(alloc, bytes)
+/// The certificate of the bytes. Of what is proved of it only that it is within the limits is told.
+pub(crate) fn read(alloc: Global, bytes: &[u8]) -> Result<Cert, CertFault>
+    ensures { IfOk result IsWithinLimits }
+{
+    read_is_within();
+    match read_cert(alloc, bytes) {
+        Ok(cert) => Ok(cert),
+        Err(fault) => Err(fault),
+    }
 }
 
 // The text with the first place of `old` written anew.

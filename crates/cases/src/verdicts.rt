@@ -1,37 +1,12 @@
 //! What the checker finds in certificates: that all tests are true, or the first that is false.
+ghost use Rattle.cert_text.specs.Limits.{IsWithinLimits};
 
 use crate::certificates::{changed, read};
 use crate::told::Told;
 use cert_checker::{Rejection, Verdict, check};
 use cert_text::Cert;
-use frac_core::OutOfMemory;
 use rq_fan::Open;
-use std::alloc::Global;
 use std::thread::Threads;
-
-// What is found of a certificate that is within the limits.
-fn checked<R: Threads + Sync>(
-    rt: &R,
-    alloc: Global,
-    cert: &Cert,
-) -> Option<Result<Verdict, OutOfMemory>> {
-    if cert.problem.columns > 128 {
-        return None;
-    }
-    if cert.problem.rows.as_slice().len() > 16384 {
-        return None;
-    }
-    if cert.segments.as_slice().len() > 1048576 {
-        return None;
-    }
-    if cert.intervals.as_slice().len() > 8192 {
-        return None;
-    }
-    if cert.problem.rows.as_slice().len() * cert.segments.as_slice().len() > 1 << 30 {
-        return None;
-    }
-    Some(check(rt, alloc, cert, &Open))
-}
 
 // The condition, the segment or interval, the number there, and both sides.
 fn tell_rejection(told: &mut Told, found: &Rejection) {
@@ -44,12 +19,13 @@ fn tell_rejection(told: &mut Told, found: &Rejection) {
     told.put_ratio(&found.right);
 }
 
-fn tell_found<R: Threads + Sync>(rt: &R, told: &mut Told, cert: &Cert) {
-    match checked(rt, told.alloc(), cert) {
-        Some(Ok(Verdict::Accepted)) => told.put("accepted"),
-        Some(Ok(Verdict::Rejected(rejection))) => tell_rejection(told, &rejection),
-        Some(Err(_)) => told.put("no memory"),
-        None => told.put("too large"),
+fn tell_found<R: Threads + Sync>(rt: &R, told: &mut Told, cert: &Cert)
+    requires { IsWithinLimits cert.now }
+{
+    match check(rt, told.alloc(), cert, &Open) {
+        Ok(Verdict::Accepted) => told.put("accepted"),
+        Ok(Verdict::Rejected(rejection)) => tell_rejection(told, &rejection),
+        Err(_) => told.put("no memory"),
     }
 }
 
