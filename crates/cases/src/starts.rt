@@ -151,7 +151,10 @@ pub(crate) fn tell_standing<F: Exact>(told: &mut Told, problem: &Problem<F>) {
 fn tell_in_wholes(told: &mut Told, problem: &Problem<Frac128>, lo: Frac128, hi: Frac128)
     requires { IsWellShaped problem.now }
 {
-    let (Ok(from), Ok(to)) = (Ratio::widen(told.alloc(), lo), Ratio::widen(told.alloc(), hi)) else {
+    let (Ok(from), Ok(to)) = (
+        Ratio::widen(told.alloc(), lo),
+        Ratio::widen(told.alloc(), hi),
+    ) else {
         return told.put("no memory");
     };
     let setting = match setting_of(told.alloc(), problem) {

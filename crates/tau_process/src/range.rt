@@ -110,10 +110,12 @@ fn start_overflow<F: Exact>(alloc: Global, problem: &Problem<F>, lo: F) -> Optio
         Err(_) => return None,
     };
     match solve_over(begun, lo, 0) {
-        Err(Halt::Refused {
-            trail,
-            refusal: Refusal::Overflow(spill),
-        }) => Some(Stop::Overflow { trail, spill }),
+        Err(
+            Halt::Refused {
+                trail,
+                refusal: Refusal::Overflow(spill),
+            },
+        ) => Some(Stop::Overflow { trail, spill }),
         _ => None,
     }
 }
