@@ -46,10 +46,7 @@ fn long_solving_step<'a, F: Exact>(
 }
 
 /// The vertex in whole numbers of any size.
-fn long_vertex<'a, F: Exact>(
-    body: &LongTableau<'a, F>,
-    theta: F,
-) -> Result<Fitted, OutOfMemory>
+fn long_vertex<'a, F: Exact>(body: &LongTableau<'a, F>, theta: F) -> Result<Fitted, OutOfMemory>
     requires costs { HasCosts (sample_of F.value (place_in_long F.value body.now)) (rational (F.value theta)) }
     requires stop { IsOptimalAt F.value (place_in_long F.value body.now) (rational (F.value theta)) }
     ensures fitted { IfOk result (IsFitted F.value (place_in_long F.value body.now) (rational (F.value theta))) }
@@ -155,11 +152,7 @@ impl<'a, F: Exact> Tableau<'a, F> {
     }
 
     /// The walking step from `from` on that is left below hi, or none. Fractions don't walk.
-    pub fn walking_step(
-        &self,
-        from: &Ratio,
-        hi: &Ratio,
-    ) -> Result<Option<WalkingStep>, Failure<F>>
+    pub fn walking_step(&self, from: &Ratio, hi: &Ratio) -> Result<Option<WalkingStep>, Failure<F>>
         requires body { (place_of F.value self.now).task.body ≢ in_fractions }
         requires costs { HasCosts (sample_of F.value (place_of F.value self.now)) (rational hi.now) }
         requires optimal { IsOptimalFrom F.value (place_of F.value self.now) (rational from.now) }

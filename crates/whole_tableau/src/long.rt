@@ -53,7 +53,8 @@ fn long_factor(alloc: Global, factors: &[Factor<i128>], k: usize) -> Result<Rati
     ensures { IfOk result (λ r. rational r ≡ factor_at factors.now k) }
 {
     if k < factors.len() {
-        return long_share(alloc, factors[k].over, factors[k].under);
+        let factor = factors[k];
+        return long_share(alloc, factor.over, factor.under);
     }
     let one = Ratio::whole(alloc, 1)?;
     Ok(one)
@@ -68,6 +69,14 @@ impl<'a, F: Exact> WholeTableau<'a, F> {
         long_share(self.alloc(), response.over, response.under)
     }
 
+    /// The factor of the costs.
+    fn cost(&self) -> Result<Ratio, Obstacle>
+        ensures { IfOk result (λ r. rational r ≡ factor_value self.now.setting.wholes.cost) }
+    {
+        let cost = self.setting().wholes.cost;
+        long_share(self.alloc(), cost.over, cost.under)
+    }
+
     /// `constant + linear * theta` over the determinant, divided by the factor of the costs.
     pub(crate) fn long_value(
         &self,
@@ -79,8 +88,7 @@ impl<'a, F: Exact> WholeTableau<'a, F> {
         ensures { IfOk result (λ r. rational r ≡ affine_value self.now (number_of constant) (number_of linear) (rational (F.value theta))) }
     {
         let alloc = self.alloc();
-        let factor = self.setting().wholes.cost;
-        let cost = long_share(alloc, factor.over, factor.under)?;
+        let cost = self.cost()?;
         let quantile = Ratio::widen(alloc, theta)?;
         let denominator = Natural::short(alloc, self.determinant().unsigned_abs());
         let first = long_number(alloc, constant)?;
@@ -106,7 +114,9 @@ impl<'a, F: Exact> WholeTableau<'a, F> {
         ensures { IfOk result (λ r. rational r ≡ (share_at self.now.square.determinant solution.now.coef k *ℚ inverse (rational response.now)) *ℚ factor_at self.now.setting.wholes.factors k) }
     {
         let alloc = self.alloc();
-        let share = long_share(alloc, solution.coef.as_slice()[k], self.determinant())?;
+        let numerators = solution.coef.as_slice();
+        let numerator = numerators[k];
+        let share = long_share(alloc, numerator, self.determinant())?;
         let over = share.div(alloc, response)?;
         let factor = long_factor(alloc, self.setting().wholes.factors.as_slice(), k)?;
         let value = over.mul(alloc, &factor)?;

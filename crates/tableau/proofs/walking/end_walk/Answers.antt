@@ -9,8 +9,8 @@ pub returns-in-Ok-push-clause-done : goal.returns-in-Ok-push-clause-done
 returns-in-Ok-push-clause-done g c =
     rw (c.into_trail-trail.ensures) (walk_done c.args.limit c.args.walk c.requires.out c.in-Ok.segment c.push.new.self (c.in-Ok.ensures {u = tt}).segment (c.in-Ok-push.ensures {u = tt}).pushed)
 
-pub returns-in-Err-clause-halted : goal.returns-in-Err-clause-halted
-returns-in-Err-clause-halted g c =
+pub returns-clause-halted : goal.returns-clause-halted
+returns-clause-halted g c =
     let value = g.F.Exact.value in
     let w = c.args.walk in
     let hi = rational c.args.hi.now in

@@ -9,16 +9,16 @@ pub returns-then-not-is_lt-clause-segments : goal.returns-then-not-is_lt-clause-
 returns-then-not-is_lt-clause-segments g c =
     let from = rational c.args.from.now in
     let to = rational c.args.to.now in
-    inr (same_from_test from to (sym (ap is_lt c.compare.ensures) ∙ sym c.is_lt.ensures ∙ c.if-not-is_lt.true) c.requires.after, refl)
+    inr (same_from_test from to (sym (ap is_lt (c.in-Ok.ensures {u = tt})) ∙ sym c.is_lt.ensures ∙ c.if-not-is_lt.true) c.requires.after, refl)
 
 pub returns-in-Ok-push_segment-clause-segments : goal.returns-in-Ok-push_segment-clause-segments
 returns-in-Ok-push_segment-clause-segments g c =
     let from = rational c.args.from.now in
     let to = rational c.args.to.now in
-    inl (c.in-Ok.segment, below_from from to (sym (ap is_lt c.compare.ensures) ∙ sym c.is_lt.ensures ∙ c.if-not-is_lt.false), (c.in-Ok.ensures {u = tt}).segment, (c.in-Ok-push_segment.ensures {u = tt}).pushed)
+    inl (c.in-Ok-segment.segment, below_from from to (sym (ap is_lt (c.in-Ok.ensures {u = tt})) ∙ sym c.is_lt.ensures ∙ c.if-not-is_lt.false), (c.in-Ok-segment.ensures {u = tt}).segment, (c.in-Ok-push_segment.ensures {u = tt}).pushed)
 
-pub returns-in-Err-clause-refused : goal.returns-in-Err-clause-refused
-returns-in-Err-clause-refused g c = λ hi stay.
+pub returns-in-Err-segment-clause-refused : goal.returns-in-Err-segment-clause-refused
+returns-in-Err-segment-clause-refused g c = λ hi stay.
     let from = rational c.args.from.now in
     let to = rational c.args.to.now in
-    (c.in-Err.ensures {u = tt}).refused hi (record { stay = stay; reported = inl (below_from from to (sym (ap is_lt c.compare.ensures) ∙ sym c.is_lt.ensures ∙ c.if-not-is_lt.false)) })
+    (c.in-Err-segment.ensures {u = tt}).refused hi (record { stay = stay; reported = inl (below_from from to (sym (ap is_lt (c.in-Ok.ensures {u = tt})) ∙ sym c.is_lt.ensures ∙ c.if-not-is_lt.false)) })

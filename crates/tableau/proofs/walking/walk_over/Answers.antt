@@ -68,8 +68,8 @@ returns-in-Ok-Some-clause-halted g c =
     subst (IsWalkHalted value g.F.Exact.range (here_of value c.args.from).task (rational (value c.args.lo)) (rational c.args.hi.now) c.args.limit) (sym c.halt_at_limit.ensures)
     (limit_walked c.args.limit c.loop.walk c.in-Ok-Some.field-0-0 c.loop.invariant.walking (omega (arith, c.loop.invariant.counted, c.loop-test.false, c.loop.invariant.short)) step)
 
-pub returns-in-Err-walking_step-clause-halted : goal.returns-in-Err-walking_step-clause-halted
-returns-in-Err-walking_step-clause-halted g c =
+pub returns-clause-halted : goal.returns-clause-halted
+returns-clause-halted g c =
     let value = g.F.Exact.value in
     let w = c.loop.walk in
     walk_refused g.F.Exact.range c.args.limit w w.reached.trail c.in-Err-walking_step.refused c.halt-in-Err-walking_step.result c.loop.invariant.walking

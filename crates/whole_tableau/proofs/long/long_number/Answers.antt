@@ -5,7 +5,7 @@ use Rattle.whole_tableau.proofs.Halves.{joined_by}
 use Rattle.whole_tableau.proofs.long.long_number.Goals as goal
 
 pub returns : goal.returns
-returns g c =
+returns c =
     let w = c.args.number in
     let upper : c.in_ok-upper.upper ≡ w.size.high * 18446744073709551616 * 18446744073709551616 =
     (c.in_ok-upper.ensures {u = tt}) ∙ rw (c.short-half.ensures, c.short-high.ensures) at (ap (λ n. n * c.short-half.result) (c.in_ok-raised.ensures {u = tt})) in

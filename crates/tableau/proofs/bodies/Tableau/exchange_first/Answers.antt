@@ -17,3 +17,9 @@ exchange-requires-clause-some g c κs within =
 
 pub exchange_first-requires-clause-first : goal.exchange_first-requires-clause-first
 exchange_first-requires-clause-first g c κs within = rw c.in-Wholes.is at c.requires.first
+
+pub exchange-requires-in-Long-clause-some : goal.exchange-requires-in-Long-clause-some
+exchange-requires-in-Long-clause-some g c κs within =
+    let h = place_of g.F.Exact.value c.args.self.now in
+    let some = mover_some (sample_of g.F.Exact.value h) (at_of h) h.inverse c.args.step.position c.requires.first.0 c.args.step.row c.requires.first.1.mover in
+    rw c.in-Long.is at some

@@ -1,7 +1,4 @@
 use Rattle.tableau.proofs.bodies.Tableau.segment.Goals as goal
 
-pub returns-in-Fractions-clause-refused : goal.returns-in-Fractions-clause-refused
-returns-in-Fractions-clause-refused g c = rw c.in-Fractions.is c.segment.ensures.refused
-
 pub returns-in-Wholes-clause-refused : goal.returns-in-Wholes-clause-refused
-returns-in-Wholes-clause-refused g c = rw c.in-Wholes.is c.segment-in-Wholes.ensures.refused
+returns-in-Wholes-clause-refused g c = rw c.in-Wholes.is c.segment.ensures.refused

@@ -1,5 +1,5 @@
 -- A coefficient more.
-use Rattle.std.proofs.Common.{rules, ◌≡◌, ◌+◌, ◌++◌, ◌∷◌, [], length, refl, ap, ◌∙◌}
+use Rattle.std.proofs.Common.{rules, ◌≡◌, ◌+◌, ◌++◌, ◌∷◌, [], length, arith, refl, ap, ◌∙◌}
 use Rattle.std.proofs.lemmas.List.{length_push}
 use Rattle.basis_inverse.proofs.Lists.{value_more}
 use Rattle.rational_laws.specs.Rational.{◌*ℚ◌, inverse}
@@ -28,3 +28,9 @@ loop-k-preserved g c =
           before.size before.each here;
     })
 
+pub returns : goal.returns
+returns g c =
+    let before = c.loop-k.invariant in
+    let all : length c.loop-k.made ≡ length c.args.solution.now.coef = search rules in
+    coefficients_here g.F.Exact.value c.args.self.now c.requires.kept c.args.solution.now c.requires.solution c.loop-k.made all
+    (λ i li. before.each i (omega (arith, li, all, before.size)))
