@@ -1,6 +1,6 @@
 -- What is answered to a walk: a process, or the stop of what halts it.
 use Rattle.std.specs.Prelude.{◌≡◌, ℕ, length, Some}
-use Rattle.std.proofs.Common.{Ok, Err, refl, sym, subst, inl, inr}
+use Rattle.std.proofs.Common.{Ok, Err, arith, refl, sym, subst, inl, inr}
 use Rattle.rational_laws.specs.Fraction.{Fraction}
 use Rattle.rational_laws.specs.Rational.{ℚ, ◌≤ℚ◌}
 use Rattle.loss_model.specs.declared.problem.Problem.{Problem}
@@ -24,7 +24,7 @@ use Rattle.walk_model.proofs.Walked.{walk_covers}
 use Rattle.tableau_model.specs.declared.refusal.Refusal.TheVariants.{Overflow as Spilled}
 use Rattle.tableau_model.specs.Places.{Task, at_of, sample_of}
 use Rattle.tableau.specs.declared.solving.Halt.{Halt}
-use Rattle.tableau.specs.Solving.{IsHalted, stop_of}
+use Rattle.tableau.specs.Solving.{IsHalted, IsRefusedAfter, stop_of}
 use Rattle.tableau.specs.Walking.{IsWalkDone, IsWalkRefusedAfter, IsWalkHalted}
 use Rattle.tableau.proofs.Halts.{at_place, by_halt, overflow_stops}
 use Rattle.tau_process.specs.Answers.{IsAnswer}
@@ -98,3 +98,14 @@ module _ {F : Type 0} (value : F → Fraction) (task : Task F) (lo hi : ℚ) (li
       (record { process = tt; stopped = tt; limited = λ reached. tt })
       (λ trail h. record { process = tt; stopped = (refl, inr h); limited = λ reached. tt })
       (λ trail spill h. record { process = tt; stopped = inr (inr (walk_overflow range trail spill h)); limited = λ reached. tt })
+
+-- an overflow before the first step is an answer whatever the limit
+pub start_overflows : {F : Type 0} (value : F → Fraction) (range : ℕ) (task : Task F) (lo : ℚ) (trail : Trail) (s : Spill F) → IsRefusedAfter value range task lo 0 trail (Spilled s) → (hi : ℚ) (limit : ℕ)
+    → IsAnswer value range task.problem lo hi limit (Err (Overflow trail s))
+start_overflows value range task lo trail s h hi limit =
+    let at = overflow_stops value range task lo 0 trail s h in
+    record {
+      process = tt;
+      stopped = inr (inl (record { basis = at.basis; lawful = at.lawful; short = omega (arith, at.short); here = at.here }));
+      limited = λ reached. tt;
+    }

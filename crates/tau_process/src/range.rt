@@ -110,12 +110,10 @@ fn start_overflow<F: Exact>(alloc: Global, problem: &Problem<F>, lo: F) -> Optio
         Err(_) => return None,
     };
     match solve_over(begun, lo, 0) {
-        Err(
-            Halt::Refused {
-                trail,
-                refusal: Refusal::Overflow(spill),
-            },
-        ) => Some(Stop::Overflow { trail, spill }),
+        Err(Halt::Refused { trail, refusal }) => match refusal {
+            Refusal::Overflow(spill) => Some(Stop::Overflow { trail, spill }),
+            Refusal::TooWide => None,
+        },
         _ => None,
     }
 }
